@@ -1,0 +1,15 @@
+-- What the functions' proofs cite.
+pub mod Compare
+pub mod Places
+pub mod Roots
+pub mod Cuts
+pub mod Bridge
+pub mod Units
+pub mod Sticky
+pub mod Scales
+pub mod Cases
+pub mod Steps
+pub mod Special
+pub mod Sums
+pub mod Quotients
+pub mod Answers

@@ -1,0 +1,65 @@
+-- 01, Rounding and flags: "exact results are written as fractions of whole numbers, and a root by comparing squares". An exact
+-- magnitude is asked two things: how it compares with a fraction, and how many whole units it holds; `roundTo` rounds it by these.
+use Prim.Native.Nat.{ℕ, zero, suc, _+_, _*_, _/_, _^_, compare, Ordering, Ordering·lt, Ordering·eq, Ordering·gt}
+use mathlib.Core.Bool.{Bool, true, false, not, cond}
+use lib.Dec.{leb}
+use lib.Ieee.{size, nearest}
+use Rattle.half.specs.declared.Mode.{Mode}
+use Rattle.half.specs.declared.Mode.the-variants.{Nearest, Down, Up, TowardZero}
+
+-- the number n / d, or the square root of n / d, for a d above 0
+pub data Magnitude : Type 0 where
+  fraction rootOf : ℕ → ℕ → Magnitude
+
+abbrev pub denominator : Magnitude → ℕ
+denominator (fraction n d) = d
+denominator (rootOf n d) = d
+
+-- how x compares with a / b, for a b above 0: a root by its square
+unfoldable pub against : Magnitude → ℕ → ℕ → Ordering
+against (fraction n d) a b = compare (n * b) (a * d)
+against (rootOf n d) a b = compare (n * (b * b)) (a * a * d)
+
+-- the largest s + y, for a y below 2 ^ k, whose square is at most n, if s is such: binary digit by digit, from the highest
+unfoldable pub rootFrom : ℕ → ℕ → ℕ → ℕ
+rootFrom zero n s = s
+rootFrom (suc k) n s = rootFrom k n (cond (leb ((s + 2 ^ k) * (s + 2 ^ k)) n) (s + 2 ^ k) s)
+
+-- the largest number whose square is at most n; `size n` is the number of n's binary digits, and the root has no more
+abbrev pub wholeRoot : ℕ → ℕ
+wholeRoot n = rootFrom (size n) n 0
+
+-- how many whole units a / b there are in x, for an a above 0
+unfoldable pub whole : Magnitude → ℕ → ℕ → ℕ
+whole (fraction n d) a b = n * b / (d * a)
+whole (rootOf n d) a b = wholeRoot (n * (b * b) / (d * (a * a)))
+
+-- ---- rounding to whole units: q of them, or q + 1
+
+abbrev pub isNearest : Mode → Bool
+isNearest Nearest = true
+isNearest Down = false
+isNearest Up = false
+isNearest TowardZero = false
+
+-- the mode leads away from zero for a number of this sign
+abbrev pub outward : Mode → Bool → Bool
+outward Nearest neg = false
+outward Down neg = neg
+outward Up neg = not neg
+outward TowardZero neg = false
+
+-- q, or q + 1 where something is left above q
+abbrev pub ceiling : ℕ → Ordering → ℕ
+ceiling q Ordering·lt = q
+ceiling q Ordering·eq = q
+ceiling q Ordering·gt = suc q
+
+-- The magnitude x of a number of this sign, rounded to a whole number of units a / b, of which it holds q.
+-- `nearest` goes by the middle, q + 1/2 units, and at the middle to the even one of q and q + 1.
+unfoldable pub roundTo : Mode → Bool → Magnitude → ℕ → ℕ → ℕ
+roundTo mode neg x a b =
+    let q = whole x a b in
+    cond (isNearest mode) (nearest q (against x ((2 * q + 1) * a) (2 * b)))
+    (cond (outward mode neg) (ceiling q (against x (q * a) b))
+    q)

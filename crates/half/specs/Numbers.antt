@@ -1,0 +1,28 @@
+-- The operations on numbers: a mode's number, and answer 9.
+use Prim.Native.Nat.{ℕ}
+use mathlib.Core.Bool.{Bool, not, cond}
+use lib.Dec.{eqb}
+use Rattle.half.specs.declared.Mode.{Mode}
+use Rattle.half.specs.declared.Mode.the-variants.{Nearest, Down, Up, TowardZero}
+use Rattle.half.specs.declared.ModeNumber.{ModeNumber}
+use Rattle.half.specs.declared.ModeNumber.the-variants.{Means, Above}
+use Rattle.half.specs.declared.Outcome.{Outcome}
+use Rattle.half.specs.declared.Rounded.{Rounded}
+
+-- 01, Rounding and flags: "Modes: 0 nearest, ties to even; 1 down; 2 up; 3 toward zero."
+unfoldable pub modeOf : ℕ → ModeNumber
+modeOf n =
+    cond (eqb n 0) (Means Nearest)
+    (cond (eqb n 1) (Means Down)
+    (cond (eqb n 2) (Means Up)
+    (cond (eqb n 3) (Means TowardZero)
+    Above)))
+
+-- "a yes or no that says whether underflow is unmasked": 0 is no
+abbrev pub yes : ℕ → Bool
+yes n = not (eqb n 0)
+
+-- 01, Numbers the engine gets back: 0, and 9 "rounding mode above 3; the half returned is 0000, no flags"
+unfoldable pub answered : ModeNumber → (Mode → Outcome) → Rounded
+answered (Means m) f = record { half = (f m) .half; flags = (f m) .flags; number = 0 }
+answered Above f = record { half = 0x0000; flags = 0; number = 9 }

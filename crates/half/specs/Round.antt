@@ -1,0 +1,89 @@
+-- 01, Rounding and flags, 4: an exact magnitude rounded to a half, with its flags. Each step is a sentence of the rule.
+use Prim.Native.Nat.{ℕ, _+_, _-_, _*_, _/_, _^_}
+use mathlib.Core.Bool.{Bool, not, _&&_, _||_, cond}
+use lib.Dec.{leb, ltb, isEq}
+use lib.Bits.{bitOr}
+use lib.Ieee.{size}
+use Rattle.half.specs.Format.{signed}
+use Rattle.half.specs.Exact.{Magnitude, denominator, against, whole, roundTo, isNearest, outward}
+use Rattle.half.specs.declared.Mode.{Mode}
+use Rattle.half.specs.declared.Outcome.{Outcome}
+
+-- "flags IE DE ZE OE UE PE in bits 0 to 5"
+abbrev pub IE : ℕ
+IE = 1
+
+abbrev pub DE : ℕ
+DE = 2
+
+abbrev pub ZE : ℕ
+ZE = 4
+
+abbrev pub OE : ℕ
+OE = 8
+
+abbrev pub UE : ℕ
+UE = 16
+
+abbrev pub PE : ℕ
+PE = 32
+
+-- a flag, where it is raised
+abbrev pub flag : ℕ → Bool → ℕ
+flag f raised = cond raised f 0
+
+abbrev pub result : ℕ → ℕ → Outcome
+result h f = record { half = h; flags = f }
+
+-- ---- two roundings to 11 significant bits
+
+-- x rounded to 11 significant bits, but to no unit finer than 2 ^ -l; a number of units 2 ^ -l
+unfoldable pub significant : ℕ → Mode → Bool → Magnitude → ℕ
+significant l mode neg x =
+    let s = size (whole x 1 (2 ^ l)) - 11 in
+    roundTo mode neg x (2 ^ s) (2 ^ l) * 2 ^ s
+
+-- a unit 2 ^ -l so fine that it sets no limit: an x above 0 with the denominator d is at least 1 / d, more than 2 ^ 24 of them
+abbrev pub fine : Magnitude → ℕ
+fine x = 24 + size (denominator x)
+
+-- "Round to 11 significant bits with no exponent limit." In units of 2 ^ -(fine x).
+abbrev pub unlimited : Mode → Bool → Magnitude → ℕ
+unlimited mode neg x = significant (fine x) mode neg x
+
+-- "The delivered half is the exact value rounded once on the half grid", whose finest unit is 2 ^ -24. In these units.
+abbrev pub delivered : Mode → Bool → Magnitude → ℕ
+delivered mode neg x = significant 24 mode neg x
+
+-- ---- what is told of them
+
+-- "Magnitude 65,536 or more"
+abbrev pub overflows : Mode → Bool → Magnitude → Bool
+overflows mode neg x = leb (65536 * 2 ^ fine x) (unlimited mode neg x)
+
+-- "Non-zero magnitude below 2 to the -14 is tiny." (A term of document 01.)
+abbrev pub tiny : Mode → Bool → Magnitude → Bool
+tiny mode neg x = ltb 0 (unlimited mode neg x) && ltb (unlimited mode neg x * 2 ^ 14) (2 ^ fine x)
+
+-- "if it differs from the exact value"
+abbrev pub inexact : Mode → Bool → Magnitude → Bool
+inexact mode neg x = not (isEq (against x (delivered mode neg x) (2 ^ 24)))
+
+-- ---- the half
+
+-- The exponent and fraction fields of the half n * 2 ^ -24: n is its leading bits, 11 at most, times 2 ^ s. A leading bit that is
+-- the eleventh adds one to the exponent.
+unfoldable pub encode : ℕ → ℕ
+encode n = let s = size n - 11 in s * 1024 + n / 2 ^ s
+
+-- "infinity or 7BFF/FBFF by mode": the largest finite half where the mode leads toward zero
+abbrev pub overflowFields : Mode → Bool → ℕ
+overflowFields mode neg = cond (isNearest mode || outward mode neg) 0x7C00 0x7BFF
+
+unfoldable pub roundedHalf : Mode → Bool → Bool → Magnitude → Outcome
+roundedHalf mode unmasked neg x =
+    -- "OE and PE, and infinity or 7BFF/FBFF by mode."
+    cond (overflows mode neg x) (result (signed neg (overflowFields mode neg)) (bitOr OE PE))
+    -- "PE if it differs from the exact value. UE if tiny and either UE is unmasked or PE holds."
+    (result (signed neg (encode (delivered mode neg x)))
+    (bitOr (flag PE (inexact mode neg x)) (flag UE (tiny mode neg x && (unmasked || inexact mode neg x)))))

@@ -1,0 +1,38 @@
+// IEEE 754 binary16 arithmetic: six operations, each rounded once, with its six flags.
+mod fields;
+pub mod fused;
+pub mod numbers;
+mod operands;
+pub mod product;
+pub mod quotient;
+pub mod root;
+mod rounding;
+pub mod sum;
+
+// The rounding modes of document 01, in the order of their numbers.
+pub enum Mode {
+    Nearest,
+    Down,
+    Up,
+    TowardZero,
+}
+
+// What the number of a mode says.
+pub enum ModeNumber {
+    Means(Mode),
+    Above,
+}
+
+// What an operation hands back: a half, and the flags IE 1, DE 2, ZE 4, OE 8, UE 16, PE 32.
+pub struct Outcome {
+    pub half: u16,
+    pub flags: u8,
+}
+
+// The same for C, with the number of the answer: 0, or 9 for a mode above 3.
+#[repr(C)]
+pub struct Rounded {
+    pub half: u16,
+    pub flags: u8,
+    pub number: u8,
+}

@@ -1,0 +1,101 @@
+// The operations on numbers, for callers that have no enum: a mode above 3 is answered 9.
+ghost use mathlib.Core.Path.{_≡_};
+ghost use Rattle.half.specs.Numbers.{modeOf, yes, answered};
+ghost use Rattle.half.specs.Operations.{halfAdd, halfSubtract, halfMultiply, halfDivide, halfRoot, halfMultiplyAdd};
+use super::Mode;
+use super::ModeNumber;
+use super::Outcome;
+use super::Rounded;
+use super::fused;
+use super::product;
+use super::quotient;
+use super::root;
+use super::sum;
+
+// The mode of a number.
+pub fn mode_of(number: u32) -> ModeNumber
+    ensures { λ r. ⌜ r ≡ modeOf number ⌝ }
+{
+    match number {
+        0 => ModeNumber::Means(Mode::Nearest),
+        1 => ModeNumber::Means(Mode::Down),
+        2 => ModeNumber::Means(Mode::Up),
+        3 => ModeNumber::Means(Mode::TowardZero),
+        _ => ModeNumber::Above,
+    }
+}
+
+fn done(o: Outcome) -> Rounded
+    ensures { λ r. ⌜ r ≡ record { half = o .half; flags = o .flags; number = 0 } ⌝ }
+{
+    Rounded {
+        half: o.half,
+        flags: o.flags,
+        number: 0,
+    }
+}
+
+fn refused() -> Rounded
+    ensures { λ r. ⌜ r ≡ record { half = 0; flags = 0; number = 9 } ⌝ }
+{
+    Rounded {
+        half: 0,
+        flags: 0,
+        number: 9,
+    }
+}
+
+pub fn add(a: u16, b: u16, mode: u32, unmasked: u32) -> Rounded
+    ensures { λ r. ⌜ r ≡ answered (modeOf mode) (λ (m : Mode). halfAdd m (yes unmasked) a b) ⌝ }
+{
+    let ModeNumber::Means(m) = mode_of(mode) else {
+        return refused();
+    };
+    done(sum::add(m, unmasked != 0, a, b))
+}
+
+pub fn subtract(a: u16, b: u16, mode: u32, unmasked: u32) -> Rounded
+    ensures { λ r. ⌜ r ≡ answered (modeOf mode) (λ (m : Mode). halfSubtract m (yes unmasked) a b) ⌝ }
+{
+    let ModeNumber::Means(m) = mode_of(mode) else {
+        return refused();
+    };
+    done(sum::subtract(m, unmasked != 0, a, b))
+}
+
+pub fn multiply(a: u16, b: u16, mode: u32, unmasked: u32) -> Rounded
+    ensures { λ r. ⌜ r ≡ answered (modeOf mode) (λ (m : Mode). halfMultiply m (yes unmasked) a b) ⌝ }
+{
+    let ModeNumber::Means(m) = mode_of(mode) else {
+        return refused();
+    };
+    done(product::multiply(m, unmasked != 0, a, b))
+}
+
+pub fn divide(a: u16, b: u16, mode: u32, unmasked: u32) -> Rounded
+    ensures { λ r. ⌜ r ≡ answered (modeOf mode) (λ (m : Mode). halfDivide m (yes unmasked) a b) ⌝ }
+{
+    let ModeNumber::Means(m) = mode_of(mode) else {
+        return refused();
+    };
+    done(quotient::divide(m, unmasked != 0, a, b))
+}
+
+pub fn square_root(a: u16, mode: u32, unmasked: u32) -> Rounded
+    ensures { λ r. ⌜ r ≡ answered (modeOf mode) (λ (m : Mode). halfRoot m (yes unmasked) a) ⌝ }
+{
+    let ModeNumber::Means(m) = mode_of(mode) else {
+        return refused();
+    };
+    done(root::square_root(m, unmasked != 0, a))
+}
+
+// a * b + c
+pub fn multiply_add(a: u16, b: u16, c: u16, mode: u32, unmasked: u32) -> Rounded
+    ensures { λ r. ⌜ r ≡ answered (modeOf mode) (λ (m : Mode). halfMultiplyAdd m (yes unmasked) a b c) ⌝ }
+{
+    let ModeNumber::Means(m) = mode_of(mode) else {
+        return refused();
+    };
+    done(fused::multiply_add(m, unmasked != 0, a, b, c))
+}

@@ -1,0 +1,92 @@
+// Multiplication.
+ghost use mathlib.Core.Path.{_≡_};
+ghost use Prim.Native.Nat.{_<_, _≤_, _+_, _-_, _*_, _^_};
+ghost use mathlib.Core.Bool.{Bool, false, _&&_, _||_};
+ghost use lib.IntN.{subℕ};
+ghost use Rattle.half.specs.Format.{isFinite, isInfinite, isZero, units, exponentField};
+ghost use Rattle.half.specs.Operations.{halfMultiply};
+ghost use Rattle.half.specs.Work.{place, Scaled};
+use super::Mode;
+use super::Outcome;
+use super::fields;
+use super::operands;
+use super::rounding;
+
+// The product of two significands, and how far its lowest bit lies above 2^-26 (raised) or below.
+pub struct Product {
+    pub significand: u64,
+    pub raised: bool,
+    pub by: u32,
+}
+
+fn product_scale(a: u16, b: u16) -> i32
+    ensures { λ r. ⌜ r ≡ subℕ (exponentField a - 1 + (exponentField b - 1)) 22 ⌝ }
+{
+    fields::scale_of(a) + fields::scale_of(b) + 26
+}
+
+pub fn scaled_product(a: u16, b: u16) -> Product
+    ensures { λ r. ⌜ Scaled a b r ⌝ }
+{
+    let p = fields::significand_of(a) * fields::significand_of(b);
+    let e = product_scale(a, b);
+    if 0 <= e {
+        return Product {
+            significand: p,
+            raised: true,
+            by: e as u32,
+        };
+    }
+    Product {
+        significand: p,
+        raised: false,
+        by: (-e) as u32,
+    }
+}
+
+// The place of a * b among the multiples of 2^-26.
+fn product_place(a: u16, b: u16) -> u64
+    ensures { λ r. ⌜ r ≡ place (units a * units b) (2 ^ 22) ⌝ }
+{
+    let p = scaled_product(a, b);
+    if p.raised {
+        return (2 * p.significand) << p.by;
+    }
+    rounding::place_of(p.significand, p.by)
+}
+
+// The product of a zero and an infinity.
+pub fn zero_times_infinity(a: u16, b: u16) -> bool
+    ensures { λ r. ⌜ r ≡ (isZero a && isInfinite b || isInfinite a && isZero b) ⌝ }
+{
+    (fields::zero(a) & fields::infinite(b)) | (fields::infinite(a) & fields::zero(b))
+}
+
+// A product with a NaN or an infinity, which turns on no mode.
+fn special_product(a: u16, b: u16) -> Outcome
+    requires { ⌜ (isFinite a && (isFinite b && isFinite b)) ≡ false ⌝ }
+    ensures { λ r. ⌜ ((mode : Mode) (unmasked : Bool) → r ≡ halfMultiply mode unmasked a b) ⌝ }
+{
+    if operands::any_nan(a, b, b) {
+        return operands::nan_result(a, b, b);
+    }
+    if zero_times_infinity(a, b) {
+        return operands::invalid_result();
+    }
+    let de = operands::denormal_flag(a, b, b);
+    Outcome {
+        half: fields::with_sign(operands::unlike_signs(a, b), 0x7C00),
+        flags: de,
+    }
+}
+
+pub fn multiply(mode: Mode, unmasked: bool, a: u16, b: u16) -> Outcome
+    ensures { λ r. ⌜ r ≡ halfMultiply mode unmasked a b ⌝ }
+{
+    if !operands::all_finite(a, b, b) {
+        return special_product(a, b);
+    }
+    let neg = operands::unlike_signs(a, b);
+    let o = rounding::round(mode, unmasked, neg, product_place(a, b));
+    operands::with_flags(operands::denormal_flag(a, b, b), o)
+}

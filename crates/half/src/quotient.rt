@@ -1,0 +1,82 @@
+// Division.
+ghost use mathlib.Core.Path.{_≡_};
+ghost use Prim.Native.Nat.{_<_, _≤_, _+_, _*_, _^_};
+ghost use mathlib.Core.Bool.{Bool, false, not, _&&_};
+ghost use Rattle.half.specs.Format.{isFinite, isZero};
+ghost use Rattle.half.specs.Exact.{fraction};
+ghost use Rattle.half.specs.Round.{roundedHalf};
+ghost use Rattle.half.specs.Operations.{halfDivide};
+ghost use Rattle.half.specs.Work.{place};
+use super::Mode;
+use super::Outcome;
+use super::fields;
+use super::operands;
+use super::rounding;
+
+// The place of x / y among the multiples of 2^-26.
+fn quotient_place(x: u64, y: u64) -> u64
+    requires { ⌜ (x < 2 ^ 40) × (y < 2 ^ 40) × (0 < y) × (x < y * 2 ^ 20) ⌝ }
+    ensures { λ r. ⌜ r ≡ place (x * 2 ^ 26) y ⌝ }
+{
+    let n = x * 0x100_0000;
+    let rest = n % y * 4;
+    let w = n / y * 4 + rest / y;
+    if rest % y == 0 { w * 2 } else { w * 2 + 1 }
+}
+
+// x / y rounded. From 2^20 on it overflows.
+fn finite_quotient(mode: Mode, unmasked: bool, neg: bool, x: u64, y: u64) -> Outcome
+    requires { ⌜ (x < 2 ^ 40) × (y < 2 ^ 40) × (0 < y) ⌝ }
+    ensures { λ r. ⌜ r ≡ roundedHalf mode unmasked neg (fraction x y) ⌝ }
+{
+    if y <= x >> 20 {
+        return rounding::overflow(mode, neg);
+    }
+    rounding::round(mode, unmasked, neg, quotient_place(x, y))
+}
+
+// A quotient with a NaN or an infinity, or with a zero for the divisor, which turns on no mode.
+fn special_quotient(a: u16, b: u16) -> Outcome
+    requires { ⌜ (isFinite a && (isFinite b && not (isZero b))) ≡ false ⌝ }
+    ensures { λ r. ⌜ ((mode : Mode) (unmasked : Bool) → r ≡ halfDivide mode unmasked a b) ⌝ }
+{
+    if operands::any_nan(a, b, b) {
+        return operands::nan_result(a, b, b);
+    }
+    if (fields::zero(a) & fields::zero(b)) | (fields::infinite(a) & fields::infinite(b)) {
+        return operands::invalid_result();
+    }
+    let unlike = operands::unlike_signs(a, b);
+    let infinity = fields::with_sign(unlike, 0x7C00);
+    if fields::finite(a) & !fields::zero(a) & fields::zero(b) {
+        return Outcome {
+            half: infinity,
+            flags: 4,
+        };
+    }
+    let de = operands::denormal_flag(a, b, b);
+    if fields::infinite(a) {
+        return Outcome {
+            half: infinity,
+            flags: de,
+        };
+    }
+    Outcome {
+        half: fields::with_sign(unlike, 0),
+        flags: de,
+    }
+}
+
+pub fn divide(mode: Mode, unmasked: bool, a: u16, b: u16) -> Outcome
+    ensures { λ r. ⌜ r ≡ halfDivide mode unmasked a b ⌝ }
+{
+    let ordinary = fields::finite(a) & (fields::finite(b) & !fields::zero(b));
+    if !ordinary {
+        return special_quotient(a, b);
+    }
+    let neg = operands::unlike_signs(a, b);
+    let x = fields::magnitude(a);
+    let y = fields::magnitude(b);
+    let o = finite_quotient(mode, unmasked, neg, x, y);
+    operands::with_flags(operands::denormal_flag(a, b, b), o)
+}

@@ -1,0 +1,122 @@
+// The one rounding that all operations share. A magnitude comes as its place t among the multiples of 2^-26 (specs/Work.antt):
+// t / 2^27 rounds as the magnitude does.
+ghost use mathlib.Core.Path.{_≡_};
+ghost use Prim.Native.Nat.{_+_, _-_, _*_, _^_, _<_, _≤_};
+ghost use mathlib.Core.Bool.{_&&_, _||_};
+ghost use lib.Bits.{bitOr};
+ghost use lib.Ieee.{size};
+ghost use Rattle.half.specs.Format.{signed};
+ghost use Rattle.half.specs.Exact.{fraction, isNearest, outward, roundTo};
+ghost use Rattle.half.specs.Round.{OE, UE, PE, flag, result, tiny, overflowFields, roundedHalf};
+ghost use Rattle.half.specs.Work.{place};
+use super::Mode;
+use super::Outcome;
+use super::fields;
+use super::operands;
+
+fn is_nearest(mode: Mode) -> bool
+    ensures { λ r. ⌜ r ≡ isNearest mode ⌝ }
+{
+    match mode {
+        Mode::Nearest => true,
+        Mode::Down => false,
+        Mode::Up => false,
+        Mode::TowardZero => false,
+    }
+}
+
+// The mode leads away from zero for a number of this sign.
+fn leads_outward(mode: Mode, neg: bool) -> bool
+    ensures { λ r. ⌜ r ≡ outward mode neg ⌝ }
+{
+    match mode {
+        Mode::Nearest => false,
+        Mode::Down => neg,
+        Mode::Up => !neg,
+        Mode::TowardZero => false,
+    }
+}
+
+// z / 4 rounded to a whole number: what is added first carries into it where the mode goes up.
+fn whole_steps(mode: Mode, neg: bool, z: u64) -> u64
+    requires { ⌜ z < 2 ^ 63 ⌝ }
+    ensures { λ r. ⌜ r ≡ roundTo mode neg (fraction z 4) 1 1 ⌝ }
+{
+    if is_nearest(mode) {
+        return (z + 1 + z / 4 % 2) / 4;
+    }
+    if leads_outward(mode, neg) {
+        return (z + 3) / 4;
+    }
+    z / 4
+}
+
+fn overflow_fields(mode: Mode, neg: bool) -> u16
+    ensures { λ r. ⌜ r ≡ overflowFields mode neg ⌝ }
+{
+    if is_nearest(mode) | leads_outward(mode, neg) {
+        return 0x7C00;
+    }
+    0x7BFF
+}
+
+// What a magnitude gives that is too large.
+pub fn overflow(mode: Mode, neg: bool) -> Outcome
+    ensures { λ r. ⌜ r ≡ result (signed neg (overflowFields mode neg)) (bitOr OE PE) ⌝ }
+{
+    let m = overflow_fields(mode, neg);
+    Outcome {
+        half: fields::with_sign(neg, m),
+        flags: 40,
+    }
+}
+
+// The place of t / 2^k.
+pub fn place_of(t: u64, k: u32) -> u64
+    requires { ⌜ (1 ≤ k) × (k < 64) ⌝ }
+    ensures { λ r. ⌜ r ≡ place t (2 ^ k) ⌝ }
+{
+    let q = t >> k;
+    if q << k == t { 2 * q } else { 2 * q + 1 }
+}
+
+// How many digits t has above 14.
+fn dropped(t: u64) -> u32
+    ensures { λ r. ⌜ r ≡ size t - 14 ⌝ }
+{
+    let zeros = u64::leading_zeros(t);
+    if zeros < 50 { 50 - zeros } else { 0 }
+}
+
+// t / 2^27 is tiny: 2^-14 is 8192 of these, and just below it the steps of 11 bits are 4.
+fn is_tiny(mode: Mode, neg: bool, t: u64) -> bool
+    ensures { λ r. ⌜ r ≡ tiny mode neg (fraction t (2 ^ 27)) ⌝ }
+{
+    if t == 0 {
+        return false;
+    }
+    if 8192 <= t {
+        return false;
+    }
+    whole_steps(mode, neg, t) < 2048
+}
+
+// t / 2^27 rounded.
+pub fn round(mode: Mode, unmasked: bool, neg: bool, t: u64) -> Outcome
+    ensures { λ r. ⌜ r ≡ roundedHalf mode unmasked neg (fraction t (2 ^ 27)) ⌝ }
+{
+    let k = dropped(t);
+    let z = place_of(t, k + 2);
+    let q = whole_steps(mode, neg, z);
+    let m = (k as u64) * 1024 + q;
+    if 0x7C00 <= m {
+        return overflow(mode, neg);
+    }
+    let inexact = z % 4 != 0;
+    let ue = is_tiny(mode, neg, t) & (unmasked | inexact);
+    let h = fields::with_sign(neg, m as u16);
+    Outcome {
+        half: h,
+        flags: operands::flag_if(32, inexact) | operands::flag_if(16, ue),
+    }
+}

@@ -1,0 +1,84 @@
+// Addition and subtraction.
+ghost use mathlib.Core.Path.{_≡_};
+ghost use Prim.Native.Nat.{_<_, _≤_, _+_, _^_};
+ghost use mathlib.Core.Bool.{Bool, false, _&&_};
+ghost use Rattle.half.specs.Format.{isFinite};
+ghost use Rattle.half.specs.Operations.{cancelled, exactSum, halfAdd, halfSubtract};
+use super::Mode;
+use super::Outcome;
+use super::fields;
+use super::operands;
+use super::rounding;
+
+// The zero that a sum of unlike signs gives.
+fn cancelled_zero(mode: Mode) -> u16
+    ensures { λ r. ⌜ r ≡ cancelled mode ⌝ }
+{
+    match mode {
+        Mode::Nearest => 0,
+        Mode::Down => 0x8000,
+        Mode::Up => 0,
+        Mode::TowardZero => 0,
+    }
+}
+
+// ±x / 2^(26 + k) and ±y / 2^(26 + k) added and rounded.
+pub fn finite_sum(mode: Mode, unmasked: bool, sx: bool, x: u64, sy: bool, y: u64, k: u32) -> Outcome
+    requires { ⌜ (x + y < 2 ^ 64) × (1 ≤ k) × (k < 64) ⌝ }
+    ensures { λ r. ⌜ r ≡ exactSum mode unmasked sx x sy y (2 ^ (k + 26)) ⌝ }
+{
+    if sx == sy {
+        return rounding::round(mode, unmasked, sx, rounding::place_of(x + y, k));
+    }
+    if y < x {
+        return rounding::round(mode, unmasked, sx, rounding::place_of(x - y, k));
+    }
+    if x < y {
+        return rounding::round(mode, unmasked, sy, rounding::place_of(y - x, k));
+    }
+    Outcome {
+        half: cancelled_zero(mode),
+        flags: 0,
+    }
+}
+
+// A sum with a NaN or an infinity, which turns on no mode.
+fn special_sum(a: u16, b: u16) -> Outcome
+    requires { ⌜ (isFinite a && (isFinite b && isFinite b)) ≡ false ⌝ }
+    ensures { λ r. ⌜ ((mode : Mode) (unmasked : Bool) → r ≡ halfAdd mode unmasked a b) ⌝ }
+{
+    if operands::any_nan(a, b, b) {
+        return operands::nan_result(a, b, b);
+    }
+    let de = operands::denormal_flag(a, b, b);
+    if fields::infinite(a) & fields::infinite(b) & operands::unlike_signs(a, b) {
+        return operands::invalid_result();
+    }
+    if fields::infinite(a) {
+        return Outcome { half: a, flags: de };
+    }
+    Outcome { half: b, flags: de }
+}
+
+pub fn add(mode: Mode, unmasked: bool, a: u16, b: u16) -> Outcome
+    ensures { λ r. ⌜ r ≡ halfAdd mode unmasked a b ⌝ }
+{
+    if !operands::all_finite(a, b, b) {
+        return special_sum(a, b);
+    }
+    let x = fields::magnitude(a) * 8;
+    let y = fields::magnitude(b) * 8;
+    let sx = fields::sign_of(a);
+    let sy = fields::sign_of(b);
+    let o = finite_sum(mode, unmasked, sx, x, sy, y, 1);
+    operands::with_flags(operands::denormal_flag(a, b, b), o)
+}
+
+pub fn subtract(mode: Mode, unmasked: bool, a: u16, b: u16) -> Outcome
+    ensures { λ r. ⌜ r ≡ halfSubtract mode unmasked a b ⌝ }
+{
+    if operands::any_nan(a, b, b) {
+        return operands::nan_result(a, b, b);
+    }
+    add(mode, unmasked, a, b ^ 0x8000)
+}
