@@ -13,3 +13,4 @@ pub mod Special
 pub mod Sums
 pub mod Quotients
 pub mod Answers
+pub mod Rows

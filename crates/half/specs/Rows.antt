@@ -2,6 +2,7 @@
 use Prim.Native.Nat.{ℕ}
 use mathlib.Core.Bool.{Bool, true, false}
 use mathlib.Core.List.{List, [], _∷_}
+use mathlib.Core.Path.{_≡_}
 use lib.Bits.{bitOr}
 use Rattle.half.specs.Round.{IE, DE, ZE, OE, UE, PE, result}
 use Rattle.half.specs.Operations.{halfAdd, halfSubtract, halfMultiply, halfDivide, halfRoot, halfMultiplyAdd}
@@ -48,6 +49,7 @@ starred =
     ∷ row over Nearest false 0x7E01 0x0000 0 0x7E01 0
     ∷ []
 
+-- what the definitions give for a row
 abbrev pub outcomeOf : Row → Outcome
 outcomeOf r = go (r .op)
   where
@@ -58,3 +60,11 @@ outcomeOf r = go (r .op)
     go over = halfDivide (r .mode) (r .unmasked) (r .a) (r .b)
     go root = halfRoot (r .mode) (r .unmasked) (r .a)
     go fused = halfMultiplyAdd (r .mode) (r .unmasked) (r .a) (r .b) (r .c)
+
+abbrev pub each : (Row → Outcome) → List Row → List Outcome
+each f [] = []
+each f (r ∷ rs) = f r ∷ each f rs
+
+-- Every starred row is what the definitions give; proved in proofs/Rows.antt.
+abbrev pub StarredRows : Type 0
+StarredRows = each outcomeOf starred ≡ each (λ (r : Row). r .gives) starred

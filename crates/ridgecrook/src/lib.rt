@@ -1,0 +1,55 @@
+// The C entry points of include/ridgecrook.h and nothing else: each calls the proved function of its crate, and has its contract.
+ghost use mathlib.Core.Path.{_≡_};
+ghost use Rattle.half.specs.Numbers.{modeOf, yes, answered};
+ghost use Rattle.half.specs.Operations.{halfAdd, halfSubtract, halfMultiply, halfDivide, halfRoot, halfMultiplyAdd};
+use half::Mode;
+use half::Rounded;
+
+#[no_mangle]
+pub extern "C" fn ridgecrook_add(a: u16, b: u16, mode: u32, underflow_unmasked: u32) -> Rounded
+    ensures { λ r. ⌜ r ≡ answered (modeOf mode) (λ (m : Mode). halfAdd m (yes «underflow_unmasked») a b) ⌝ }
+{
+    half::numbers::add(a, b, mode, underflow_unmasked)
+}
+
+#[no_mangle]
+pub extern "C" fn ridgecrook_subtract(a: u16, b: u16, mode: u32, underflow_unmasked: u32) -> Rounded
+    ensures { λ r. ⌜ r ≡ answered (modeOf mode) (λ (m : Mode). halfSubtract m (yes «underflow_unmasked») a b) ⌝ }
+{
+    half::numbers::subtract(a, b, mode, underflow_unmasked)
+}
+
+#[no_mangle]
+pub extern "C" fn ridgecrook_multiply(a: u16, b: u16, mode: u32, underflow_unmasked: u32) -> Rounded
+    ensures { λ r. ⌜ r ≡ answered (modeOf mode) (λ (m : Mode). halfMultiply m (yes «underflow_unmasked») a b) ⌝ }
+{
+    half::numbers::multiply(a, b, mode, underflow_unmasked)
+}
+
+#[no_mangle]
+pub extern "C" fn ridgecrook_divide(a: u16, b: u16, mode: u32, underflow_unmasked: u32) -> Rounded
+    ensures { λ r. ⌜ r ≡ answered (modeOf mode) (λ (m : Mode). halfDivide m (yes «underflow_unmasked») a b) ⌝ }
+{
+    half::numbers::divide(a, b, mode, underflow_unmasked)
+}
+
+#[no_mangle]
+pub extern "C" fn ridgecrook_square_root(a: u16, mode: u32, underflow_unmasked: u32) -> Rounded
+    ensures { λ r. ⌜ r ≡ answered (modeOf mode) (λ (m : Mode). halfRoot m (yes «underflow_unmasked») a) ⌝ }
+{
+    half::numbers::square_root(a, mode, underflow_unmasked)
+}
+
+// a * b + c
+#[no_mangle]
+pub extern "C" fn ridgecrook_fused_multiply_add(
+    a: u16,
+    b: u16,
+    c: u16,
+    mode: u32,
+    underflow_unmasked: u32,
+) -> Rounded
+    ensures { λ r. ⌜ r ≡ answered (modeOf mode) (λ (m : Mode). halfMultiplyAdd m (yes «underflow_unmasked») a b c) ⌝ }
+{
+    half::numbers::multiply_add(a, b, c, mode, underflow_unmasked)
+}
