@@ -20,12 +20,12 @@ use Rattle.half.proofs.Sticky.{own-place, of-place}
 
 -- ---- to a whole number
 module _ (mode : Mode) (neg : Bool) (z : ℕ) where
-  middle : (o : Ordering) → Cmp o (z * 2) ((2 * (z / 4) + 1) * 1 * 4) → (z + 1 + z / 4 % 2) / 4 ≡ nearest (z / 4) o
+  middle : (o : Ordering) → Cmp o (z * 2) ((2 * (z / 4) + 1) * 1 * 4) → (z + (1 + z / 4 % 2)) / 4 ≡ nearest (z / 4) o
   middle Ordering·lt h = omega arith
   middle Ordering·eq h = omega arith
   middle Ordering·gt h = omega arith
 
-  pub to-nearest : isNearest mode ≡ true → (z + 1 + z / 4 % 2) / 4 ≡ roundTo mode neg (fraction z 4) 1 1
+  to-nearest : isNearest mode ≡ true → (z + (1 + z / 4 % 2)) / 4 ≡ roundTo mode neg (fraction z 4) 1 1
   unfolding roundTo against
   to-nearest n = rw (n, quarter mode neg z) (middle (compare (z * 2) ((2 * (z / 4) + 1) * 1 * 4)) (cmp (z * 2) ((2 * (z / 4) + 1) * 1 * 4)))
 
@@ -34,13 +34,22 @@ module _ (mode : Mode) (neg : Bool) (z : ℕ) where
   floor Ordering·eq h = omega arith
   floor Ordering·gt h = omega arith
 
-  pub outwards : isNearest mode ≡ false → outward mode neg ≡ true → (z + 3) / 4 ≡ roundTo mode neg (fraction z 4) 1 1
+  outwards : isNearest mode ≡ false → outward mode neg ≡ true → (z + 3) / 4 ≡ roundTo mode neg (fraction z 4) 1 1
   unfolding roundTo against
   outwards n o = rw (n, o, quarter mode neg z) (floor (compare (z * 1) (z / 4 * 1 * 4)) (cmp (z * 1) (z / 4 * 1 * 4)))
 
-  pub inwards : isNearest mode ≡ false → outward mode neg ≡ false → z / 4 ≡ roundTo mode neg (fraction z 4) 1 1
+  inwards : isNearest mode ≡ false → outward mode neg ≡ false → z / 4 ≡ roundTo mode neg (fraction z 4) 1 1
   unfolding roundTo
   inwards n o = rw (n, o, quarter mode neg z)
+
+  -- c is what is carried in
+  pub carried : {n o : Bool} {c : ℕ} → n ≡ isNearest mode → o ≡ outward mode neg → c ≡ cond n (1 + z / 4 % 2) (cond o 3 0) → (z + c) / 4 ≡ roundTo mode neg (fraction z 4) 1 1
+  carried {n} {o} {c} hn ho hc = go n o (sym hn) (sym ho) hc
+    where
+      go : (n o : Bool) → isNearest mode ≡ n → outward mode neg ≡ o → c ≡ cond n (1 + z / 4 % 2) (cond o 3 0) → (z + c) / 4 ≡ roundTo mode neg (fraction z 4) 1 1
+      go true o p q e = rw e (to-nearest p)
+      go false true p q e = rw e (outwards p q)
+      go false false p q e = let f : z + c ≡ z = omega arith in rw f (inwards p q)
 
 pub overflow-lt : (mode : Mode) (neg : Bool) → overflowFields mode neg < 32768
 overflow-lt mode neg = go (isNearest mode || outward mode neg)
@@ -48,6 +57,11 @@ overflow-lt mode neg = go (isNearest mode || outward mode neg)
     go : (b : Bool) → cond b 0x7C00 0x7BFF < 32768
     go true = omega arith
     go false = omega arith
+
+pub carry-le : (n o : Bool) (d : ℕ) → d < 2 → cond n (1 + d) (cond o 3 0) ≤ 3
+carry-le true o d h = omega arith
+carry-le false true d h = omega arith
+carry-le false false d h = omega arith
 
 -- ---- tiny
 module _ (mode : Mode) (neg : Bool) (t : ℕ) where

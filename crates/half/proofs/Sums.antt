@@ -1,11 +1,12 @@
 -- Finite sums as the code works them out.
 use Prim.Native.Nat.{ℕ, _+_, _-_, _*_, _^_, _≤_, _<_}
-use mathlib.Core.Bool.{Bool, true, false, cond, Bool·beq}
+use mathlib.Core.Bool.{Bool, true, false, not, _&&_, cond, Bool·beq}
 use mathlib.Core.List.{[], _∷_}
 use mathlib.Core.Path.{_≡_, refl, sym, ap, _∙_}
 use native.Mathlib.Omega.{arith}
 use lib.Bits.{bitOr}
-use borrow.Author.Tests.{lt-ltb, le-ltb}
+use lib.Dec.{ltb, eqb}
+use borrow.Author.Tests.{lt-ltb, le-ltb, ltb-true, ltb-false, eqb-true, eqb-false}
 use Rattle.half.specs.Format.{isSubnormal, negative, units}
 use Rattle.half.specs.Exact.{fraction}
 use Rattle.half.specs.Round.{DE, flag, result, roundedHalf}
@@ -16,23 +17,44 @@ use Rattle.half.specs.declared.Outcome.{Outcome}
 use Rattle.half.proofs.Cases.{again}
 use Rattle.half.proofs.Sticky.{sticky-shift, sum-scale}
 
--- ---- ± x and ± y, in units of 2 ^ -(k + 26): t is the place of their sum or difference
-module _ (mode : Mode) (unmasked sx : Bool) (x : ℕ) (sy : Bool) (y k : ℕ) {t : ℕ} {o : Outcome} where
-  pub like : Bool·beq sx sy ≡ true → t ≡ place (x + y) (2 ^ k) → o ≡ roundedHalf mode unmasked sx (fraction t (2 ^ 27)) → o ≡ exactSum mode unmasked sx x sy y (2 ^ (k + 26))
-  unfolding exactSum
-  like s ht h = rw (s, sticky-shift mode unmasked sx (x + y) k, ← ht) h
+beq-eq : (p q : Bool) → Bool·beq p q ≡ true → p ≡ q
+beq-eq true true e = refl
+beq-eq true false e = cc
+beq-eq false true e = cc
+beq-eq false false e = refl
 
-  pub more-left : Bool·beq sx sy ≡ false → y < x → t ≡ place (x - y) (2 ^ k) → o ≡ roundedHalf mode unmasked sx (fraction t (2 ^ 27)) → o ≡ exactSum mode unmasked sx x sy y (2 ^ (k + 26))
+-- ---- ± x and ± y, in units of 2 ^ -(k + 26): m is the magnitude of the sum, neg its sign
+module _ (mode : Mode) (unmasked sx : Bool) (x : ℕ) (sy : Bool) (y k : ℕ) {m : ℕ} (hm : m ≡ cond (Bool·beq sx sy) (x + y) (cond (ltb x y) (y - x) (x - y))) where
+  pub cancel : (not (Bool·beq sx sy) && eqb m 0) ≡ true → {h : ℕ} → h ≡ cancelled mode → result h 0 ≡ exactSum mode unmasked sx x sy y (2 ^ (k + 26))
   unfolding exactSum
-  more-left s l ht h = rw (s, lt-ltb y x l, sticky-shift mode unmasked sx (x - y) k, ← ht) h
+  cancel e {h} hh = go (Bool·beq sx sy) (ltb x y) refl refl e hm
+    where
+      go : (l b : Bool) → Bool·beq sx sy ≡ l → ltb x y ≡ b → (not l && eqb m 0) ≡ true → m ≡ cond l (x + y) (cond b (y - x) (x - y)) → result h 0 ≡ exactSum mode unmasked sx x sy y (2 ^ (k + 26))
+      go true b p q r t = cc
+      go false true p q r t = let z : m ≡ 0 = eqb-true m 0 r in let l : x < y = ltb-true _ _ q in absurd (let f : y - x ≡ 0 = sym t ∙ z in omega arith)
+      go false false p q r t =
+          let z : m ≡ 0 = eqb-true m 0 r in
+          let l : y ≤ x = ltb-false _ _ q in
+          let g : x ≤ y = let f : x - y ≡ 0 = sym t ∙ z in omega arith in
+          rw (p, q, le-ltb y x g, ← hh)
 
-  pub more-right : Bool·beq sx sy ≡ false → x < y → t ≡ place (y - x) (2 ^ k) → o ≡ roundedHalf mode unmasked sy (fraction t (2 ^ 27)) → o ≡ exactSum mode unmasked sx x sy y (2 ^ (k + 26))
+  pub summed : (not (Bool·beq sx sy) && eqb m 0) ≡ false → {t : ℕ} {neg : Bool} {o : Outcome} → neg ≡ cond (ltb x y) sy sx → t ≡ place m (2 ^ k)
+      → o ≡ roundedHalf mode unmasked neg (fraction t (2 ^ 27)) → o ≡ exactSum mode unmasked sx x sy y (2 ^ (k + 26))
   unfolding exactSum
-  more-right s l ht h = let g : x ≤ y = omega arith in rw (s, le-ltb y x g, lt-ltb x y l, sticky-shift mode unmasked sy (y - x) k, ← ht) h
+  summed e {t} {neg} {o} hn ht h = go (Bool·beq sx sy) (ltb x y) refl refl e hm hn
+    where
+      at : (n : ℕ) (s : Bool) → m ≡ n → neg ≡ s → o ≡ roundedHalf mode unmasked s (fraction n (2 ^ (k + 26)))
+      at n s em es = h ∙ rw (ht, em, es) (sym (sticky-shift mode unmasked s n k))
 
-pub cancel : (mode : Mode) (unmasked sx : Bool) (x : ℕ) (sy : Bool) (y k : ℕ) → Bool·beq sx sy ≡ false → x ≤ y → y ≤ x → {h : ℕ} → h ≡ cancelled mode → result h 0 ≡ exactSum mode unmasked sx x sy y (2 ^ (k + 26))
-unfolding exactSum
-cancel mode unmasked sx x sy y k s g l h = rw (s, le-ltb y x g, le-ltb x y l, ← h)
+      go : (l b : Bool) → Bool·beq sx sy ≡ l → ltb x y ≡ b → (not l && eqb m 0) ≡ false → m ≡ cond l (x + y) (cond b (y - x) (x - y)) → neg ≡ cond b sy sx → o ≡ exactSum mode unmasked sx x sy y (2 ^ (k + 26))
+      go true true p q r em es = rw p (at (x + y) sx em (es ∙ sym (beq-eq sx sy p)))
+      go true false p q r em es = rw p (at (x + y) sx em es)
+      go false true p q r em es = let l : x < y = ltb-true _ _ q in let g : x ≤ y = omega arith in rw (p, le-ltb y x g, q) (at (y - x) sy em es)
+      go false false p q r em es =
+          let l : y ≤ x = ltb-false _ _ q in
+          let n : (m ≡ 0 → ⊥) = eqb-false m 0 r in
+          let g : y < x = let f : m ≡ x - y = em in omega arith in
+          rw (p, lt-ltb y x g) (at (x - y) sx em es)
 
 -- ---- the DE of two operands, of which the code hands the last in again, beside what follows
 pub beside : (a b : ℕ) {f : ℕ} {o r q : Outcome} → f ≡ flag DE (some isSubnormal (a ∷ b ∷ b ∷ [])) → r ≡ result (o .half) (bitOr f (o .flags)) → o ≡ q → r ≡ withDenormals (a ∷ b ∷ []) q

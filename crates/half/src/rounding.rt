@@ -2,7 +2,7 @@
 // t / 2^27 rounds as the magnitude does.
 ghost use mathlib.Core.Path.{_≡_};
 ghost use Prim.Native.Nat.{_+_, _-_, _*_, _^_, _<_, _≤_};
-ghost use mathlib.Core.Bool.{_&&_, _||_};
+ghost use mathlib.Core.Bool.{true, false, cond};
 ghost use lib.Bits.{bitOr};
 ghost use lib.Ieee.{size};
 ghost use Rattle.half.specs.Format.{signed};
@@ -25,30 +25,59 @@ fn is_nearest(mode: Mode) -> bool
     }
 }
 
-// The mode leads away from zero for a number of this sign.
-fn leads_outward(mode: Mode, neg: bool) -> bool
-    ensures { λ r. ⌜ r ≡ outward mode neg ⌝ }
+// The mode leads away from zero for a negative number.
+fn is_down(mode: Mode) -> bool
+    ensures { λ r. ⌜ r ≡ outward mode true ⌝ }
 {
     match mode {
         Mode::Nearest => false,
-        Mode::Down => neg,
-        Mode::Up => !neg,
+        Mode::Down => true,
+        Mode::Up => false,
         Mode::TowardZero => false,
     }
 }
 
-// z / 4 rounded to a whole number: what is added first carries into it where the mode goes up.
+// The mode leads away from zero for a positive number.
+fn is_up(mode: Mode) -> bool
+    ensures { λ r. ⌜ r ≡ outward mode false ⌝ }
+{
+    match mode {
+        Mode::Nearest => false,
+        Mode::Down => false,
+        Mode::Up => true,
+        Mode::TowardZero => false,
+    }
+}
+
+fn leads_outward(mode: Mode, neg: bool) -> bool
+    ensures { λ r. ⌜ r ≡ outward mode neg ⌝ }
+{
+    let down = is_down(mode);
+    let up = is_up(mode);
+    if neg { down } else { up }
+}
+
+// What is added to z before it is divided by 4, to carry where the mode goes up; odd is z / 4 % 2.
+fn carry(nearest: bool, outward: bool, odd: u64) -> u64
+    requires { ⌜ odd < 2 ⌝ }
+    ensures { λ r. ⌜ r ≡ cond nearest (1 + odd) (cond outward 3 0) ⌝ }
+{
+    if nearest {
+        return 1 + odd;
+    }
+    if outward {
+        return 3;
+    }
+    0
+}
+
+// z / 4 rounded to a whole number.
 fn whole_steps(mode: Mode, neg: bool, z: u64) -> u64
     requires { ⌜ z < 2 ^ 63 ⌝ }
     ensures { λ r. ⌜ r ≡ roundTo mode neg (fraction z 4) 1 1 ⌝ }
 {
-    if is_nearest(mode) {
-        return (z + 1 + z / 4 % 2) / 4;
-    }
-    if leads_outward(mode, neg) {
-        return (z + 3) / 4;
-    }
-    z / 4
+    let outward = leads_outward(mode, neg);
+    (z + carry(is_nearest(mode), outward, z / 4 % 2)) / 4
 }
 
 fn overflow_fields(mode: Mode, neg: bool) -> u16

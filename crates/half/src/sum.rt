@@ -1,7 +1,8 @@
 // Addition and subtraction.
 ghost use mathlib.Core.Path.{_≡_};
-ghost use Prim.Native.Nat.{_<_, _≤_, _+_, _^_};
-ghost use mathlib.Core.Bool.{Bool, false, _&&_};
+ghost use Prim.Native.Nat.{_<_, _≤_, _+_, _-_, _^_};
+ghost use mathlib.Core.Bool.{Bool, false, _&&_, cond};
+ghost use lib.Dec.{ltb};
 ghost use Rattle.half.specs.Format.{isFinite};
 ghost use Rattle.half.specs.Operations.{cancelled, exactSum, halfAdd, halfSubtract};
 use super::Mode;
@@ -22,24 +23,42 @@ fn cancelled_zero(mode: Mode) -> u16
     }
 }
 
+// The magnitude of ±x and ±y added.
+fn total(like: bool, x: u64, y: u64) -> u64
+    requires { ⌜ x + y < 2 ^ 64 ⌝ }
+    ensures { λ r. ⌜ r ≡ cond like (x + y) (cond (ltb x y) (y - x) (x - y)) ⌝ }
+{
+    if like {
+        return x + y;
+    }
+    if x < y {
+        return y - x;
+    }
+    x - y
+}
+
+// The sign of the larger one.
+fn sign_of_larger(sx: bool, x: u64, sy: bool, y: u64) -> bool
+    ensures { λ r. ⌜ r ≡ cond (ltb x y) sy sx ⌝ }
+{
+    if x < y { sy } else { sx }
+}
+
 // ±x / 2^(26 + k) and ±y / 2^(26 + k) added and rounded.
 pub fn finite_sum(mode: Mode, unmasked: bool, sx: bool, x: u64, sy: bool, y: u64, k: u32) -> Outcome
     requires { ⌜ (x + y < 2 ^ 64) × (1 ≤ k) × (k < 64) ⌝ }
     ensures { λ r. ⌜ r ≡ exactSum mode unmasked sx x sy y (2 ^ (k + 26)) ⌝ }
 {
-    if sx == sy {
-        return rounding::round(mode, unmasked, sx, rounding::place_of(x + y, k));
+    let like = sx == sy;
+    let m = total(like, x, y);
+    if !like & (m == 0) {
+        return Outcome {
+            half: cancelled_zero(mode),
+            flags: 0,
+        };
     }
-    if y < x {
-        return rounding::round(mode, unmasked, sx, rounding::place_of(x - y, k));
-    }
-    if x < y {
-        return rounding::round(mode, unmasked, sy, rounding::place_of(y - x, k));
-    }
-    Outcome {
-        half: cancelled_zero(mode),
-        flags: 0,
-    }
+    let neg = sign_of_larger(sx, x, sy, y);
+    rounding::round(mode, unmasked, neg, rounding::place_of(m, k))
 }
 
 // A sum with a NaN or an infinity, which turns on no mode.

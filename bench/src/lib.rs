@@ -1,0 +1,3 @@
+//! What the benchmark times the library against.
+
+pub mod plain;

@@ -1,0 +1,49 @@
+//! The independent second program: the half arithmetic of document 01 ('Rounding and flags') in
+//! plain whole numbers, slow and obvious. It shares no code with the library.
+//!
+//! `operations` has rules 1 to 3 and the exact values, `rounding` has rule 4.
+
+mod exact;
+mod half;
+mod operations;
+mod rounding;
+
+use crate::case::{Case, Outcome};
+use operations::Stage;
+use rounding::Mode;
+
+/// What document 01 answers to a case.
+pub fn answer(case: &Case) -> Outcome {
+    // 01, 'Numbers the engine gets back', 9: a rounding mode above 3.
+    let Some(mode) = Mode::numbered(case.mode) else {
+        return Outcome {
+            half: 0,
+            flags: 0,
+            number: 9,
+        };
+    };
+    let (half, flags) = match operations::before_rounding(case, mode) {
+        Stage::Decided { half, flags } => (half, flags),
+        Stage::Exact { value, flags } => {
+            let (half, more) = rounding::round(&value, mode, case.underflow_unmasked != 0);
+            (half, flags | more)
+        }
+    };
+    Outcome {
+        half,
+        flags,
+        number: 0,
+    }
+}
+
+/// Whether the exact result lies in the middle of two neighbouring halves. This takes no part in
+/// an answer: it is for tests that count what their operands reach.
+pub fn is_in_the_middle(case: &Case) -> bool {
+    let Some(mode) = Mode::numbered(case.mode) else {
+        return false;
+    };
+    match operations::before_rounding(case, mode) {
+        Stage::Decided { .. } => false,
+        Stage::Exact { value, .. } => rounding::is_in_the_middle(&value),
+    }
+}
