@@ -12,9 +12,9 @@ use borrow.Author.Tests.{leb-false, lt-ltb, le-ltb, ltb-true, ltb-false}
 use mir.Syntax.{w32}
 use mir.Val.{SFits, Fits, toZ, ofZ}
 use mir.Facts.{toZ-ofZ, toZ-pos, fits-natAbs}
-use Rattle.half.specs.Work.{place, Scaled}
+use Rattle.half.specs.Work.{place, scale, Scaled}
 use Rattle.half.specs.declared.product.Product.{Product}
-use Rattle.half.specs.Format.{scale, significand, units}
+use Rattle.half.specs.Format.{significand, units}
 use Rattle.half.proofs.Places.{place-scale, place-two}
 use Rattle.half.proofs.Units.{lift, lift-le, significand-lt}
 

@@ -7,7 +7,7 @@ use lib.Ieee.{size, nearest}
 use Rattle.half.specs.declared.Mode.{Mode}
 use Rattle.half.specs.declared.Mode.the-variants.{Nearest, Down, Up, TowardZero}
 
--- the number n / d, or the square root of n / d, for a d above 0
+-- the number n / d, or the square root of n / d; d is above 0
 pub data Magnitude : Type 0 where
   fraction rootOf : ℕ → ℕ → Magnitude
 
@@ -15,7 +15,7 @@ abbrev pub denominator : Magnitude → ℕ
 denominator (fraction n d) = d
 denominator (rootOf n d) = d
 
--- how x compares with a / b, for a b above 0: a root by its square
+-- How x compares with a / b, where b is above 0: lt is x < a / b, eq is x = a / b, gt is x > a / b. A root goes by its square.
 unfoldable pub against : Magnitude → ℕ → ℕ → Ordering
 against (fraction n d) a b = compare (n * b) (a * d)
 against (rootOf n d) a b = compare (n * (b * b)) (a * a * d)
@@ -29,7 +29,8 @@ rootFrom (suc k) n s = rootFrom k n (cond (leb ((s + 2 ^ k) * (s + 2 ^ k)) n) (s
 abbrev pub wholeRoot : ℕ → ℕ
 wholeRoot n = rootFrom (size n) n 0
 
--- how many whole units a / b there are in x, for an a above 0
+-- How many whole units a / b there are in x, where a is above 0: q such that q units are at most x and q + 1 are more (crate half_laws,
+-- WholeUnitsLaw, also for the root, which is taken of a whole number).
 unfoldable pub whole : Magnitude → ℕ → ℕ → ℕ
 whole (fraction n d) a b = n * b / (d * a)
 whole (rootOf n d) a b = wholeRoot (n * (b * b) / (d * (a * a)))
@@ -49,14 +50,14 @@ outward Down neg = neg
 outward Up neg = not neg
 outward TowardZero neg = false
 
--- q, or q + 1 where something is left above q
+-- q, or q + 1 where x is above q units (it is never below)
 abbrev pub ceiling : ℕ → Ordering → ℕ
 ceiling q Ordering·lt = q
 ceiling q Ordering·eq = q
 ceiling q Ordering·gt = suc q
 
--- The magnitude x of a number of this sign, rounded to a whole number of units a / b, of which it holds q.
--- `nearest` goes by the middle, q + 1/2 units, and at the middle to the even one of q and q + 1.
+-- The magnitude x of a number of this sign, rounded to a whole number of units a / b, of which it holds q. The kit's `nearest` goes by
+-- how x compares with the middle, q + 1/2 units: below it q, above it q + 1, and at it q + q % 2, the even one of the two.
 unfoldable pub roundTo : Mode → Bool → Magnitude → ℕ → ℕ → ℕ
 roundTo mode neg x a b =
     let q = whole x a b in

@@ -3,7 +3,6 @@ use Prim.Native.Nat.{ℕ, _+_, _-_, _*_, _/_, _%_, _^_}
 use mathlib.Core.Bool.{Bool, not, _&&_, cond}
 use lib.Dec.{ltb, eqb}
 use lib.Bits.{bitOr, bitXor}
-use lib.IntN.{ℤ, subℕ}
 
 abbrev pub negative : ℕ → Bool
 negative h = eqb (h / 32768) 1
@@ -37,14 +36,10 @@ isSubnormal h = eqb (exponentField h) 0 && not (eqb (fractionField h) 0)
 
 -- ---- the number that a finite half stands for
 
--- The significand, and the unbiased exponent of its lowest bit: -24 for a subnormal, and for a normal the exponent field less 25.
 abbrev pub significand : ℕ → ℕ
 significand h = cond (eqb (exponentField h) 0) (fractionField h) (1024 + fractionField h)
 
-abbrev pub scale : ℕ → ℤ
-scale h = subℕ (exponentField h - 1) 24
-
--- "Every finite half times 2 to the 24 is a whole number": that number, of a half with its sign left out.
+-- "Every finite half times 2 to the 24 is a whole number": that number, with the sign left out. It is asked of finite halves alone.
 unfoldable pub units : ℕ → ℕ
 units h = significand h * 2 ^ (exponentField h - 1)
 

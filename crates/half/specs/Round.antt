@@ -43,7 +43,8 @@ significant l mode neg x =
     let s = size (whole x 1 (2 ^ l)) - 11 in
     roundTo mode neg x (2 ^ s) (2 ^ l) * 2 ^ s
 
--- a unit 2 ^ -l so fine that it sets no limit: an x above 0 with the denominator d is at least 1 / d, more than 2 ^ 24 of them
+-- The unit 2 ^ -(fine x) is so fine that it sets no limit: an x above 0 with the denominator d, a fraction or a root, is at least
+-- 1 / d, which is 2 ^ 24 of these units or more (crate half_laws, FinerLaw and ElevenBitsLaw).
 abbrev pub fine : Magnitude → ℕ
 fine x = 24 + size (denominator x)
 
@@ -71,8 +72,8 @@ inexact mode neg x = not (isEq (against x (delivered mode neg x) (2 ^ 24)))
 
 -- ---- the half
 
--- The exponent and fraction fields of the half n * 2 ^ -24: n is its leading bits, 11 at most, times 2 ^ s. A leading bit that is
--- the eleventh adds one to the exponent.
+-- The exponent and fraction fields of the half n * 2 ^ -24, for an n below 2 ^ 40 of 11 significant bits. A normal's n / 2 ^ s is
+-- 1024 to 2047, and its 1024 makes the exponent field s + 1; a subnormal has s = 0.
 unfoldable pub encode : ℕ → ℕ
 encode n = let s = size n - 11 in s * 1024 + n / 2 ^ s
 

@@ -3,7 +3,8 @@
 use Prim.Native.Nat.{ℕ, _+_, _-_, _*_, _/_, _%_, _^_, _<_, _≤_, min}
 use mathlib.Core.Bool.{true, false}
 use mathlib.Core.Path.{_≡_}
-use Rattle.half.specs.Format.{units}
+use lib.IntN.{ℤ, subℕ}
+use Rattle.half.specs.Format.{exponentField, units}
 use Rattle.half.specs.Exact.{rootFrom}
 use Rattle.half.specs.declared.product.Product.{Product}
 
@@ -18,6 +19,10 @@ place n d = 2 * (n / d) + more (n % d)
 -- of the square root of n, for an n below 2 ^ (2 * k)
 unfoldable pub rootPlace : ℕ → ℕ → ℕ
 rootPlace k n = let s = rootFrom k n 0 in 2 * s + more (n - s * s)
+
+-- the unbiased exponent of a significand's lowest bit: -24 for a subnormal, and for a normal the exponent field less 25
+abbrev pub scale : ℕ → ℤ
+scale h = subℕ (exponentField h - 1) 24
 
 -- p is the product of the significands of a and b, and by how many digits its unit lies above 2 ^ -26 or below
 pub record Scaled (a b : ℕ) (p : Product) : Type 0 where

@@ -1,0 +1,155 @@
+-- The ranges of a decoded instruction's fields, for whoever uses them as indices: each is a few bits, so they hold of any bytes.
+-- Assumes nothing.
+use mathlib.Core.Path.{_≡_, subst}
+use mathlib.Core.Bool.{Bool, true, false, cond, not, _&&_, _||_}
+use mathlib.Core.List.{List, [], _∷_, map}
+use Prim.Native.Nat.{ℕ, _≤_, _<_}
+use native.Mathlib.Omega.{arith}
+use native.Mathlib.Nat.{add-le-add}
+use lib.Dec.{eqb, lit≤}
+use lib.IntN.{ℤ}
+use Rattle.evex.specs.First.{firstOf}
+use Rattle.evex.specs.Bits.{bits}
+use Rattle.evex.specs.List.{hasFirst}
+use Rattle.evex.specs.Fields.{headOf, b, lengthBits, modBits, rm, listed, destination, firstSource, secondSource, first, registerForm, embeddedRounding, lanes, rounding, hasSib, baseBits, indexNumber, indexOf, noBase, baseOf, displacementAt, displacementSize, size, displacementOf, second, instruction}
+use Rattle.evex.specs.Decode.{refusals, fields, decoded}
+use Rattle.evex.specs.declared.head.Head.{Head}
+use Rattle.evex.specs.declared.list.Row.{Row}
+use Rattle.evex.specs.declared.list.Listed.{Listed}
+use Rattle.evex.specs.declared.list.Listed.the-variants.{Found, Nothing}
+use Rattle.evex.specs.declared.Rounding.{Rounding}
+use Rattle.evex.specs.declared.Rounding.the-variants.{Control, Embedded}
+use Rattle.evex.specs.declared.Source.{Source}
+use Rattle.evex.specs.declared.Source.the-variants as source
+use Rattle.evex.specs.declared.Base.{Base}
+use Rattle.evex.specs.declared.Base.the-variants as base
+use Rattle.evex.specs.declared.Index.{Index}
+use Rattle.evex.specs.declared.Index.the-variants as index
+use Rattle.evex.specs.declared.Operand.{Operand}
+use Rattle.evex.specs.declared.Operand.the-variants as operand
+use Rattle.evex.specs.declared.Instruction.{Instruction}
+use Rattle.evex.specs.declared.Refusal.{Refusal}
+use Rattle.evex.specs.declared.Decoded.{Decoded}
+use Rattle.evex.specs.declared.Decoded.the-variants.{Fields, Refused}
+
+abbrev pub RoundingIn : Rounding → Type 0
+RoundingIn Control = Unit {0}
+RoundingIn (Embedded mode) = mode < 4
+
+abbrev pub SourceIn : Source → Type 0
+SourceIn source.None = Unit {0}
+SourceIn (source.Register n) = n < 32
+
+abbrev pub BaseIn : Base → Type 0
+BaseIn base.None = Unit {0}
+BaseIn (base.General n) = n < 16
+BaseIn base.NextInstruction = Unit {0}
+
+abbrev pub IndexIn : Index → Type 0
+IndexIn index.None = Unit {0}
+IndexIn (index.Scaled n scale) = (n < 16) × (scale < 4)
+
+abbrev pub OperandIn : Operand → Type 0
+OperandIn (operand.Register n) = n < 32
+OperandIn (operand.Memory address broadcast) = BaseIn (address .base) × IndexIn (address .index)
+
+pub record Bounds (i : Instruction) : Type 0 where
+  pub lanes : i .lanes ≤ 32
+  pub rounding : RoundingIn (i .rounding)
+  pub mask : i .mask < 8
+  pub destination : i .destination < 32
+  pub first : SourceIn (i .first)
+  pub second : OperandIn (i .second)
+  pub size : i .size ≤ 11
+
+-- ---- each field
+
+-- what holds of both holds of the one that a test picks
+either : {A : Type 0} (P : A → Type 0) (t : Bool) (x y : A) → P x → P y → P (cond t x y)
+either P true x y p q = p
+either P false x y p q = q
+
+at-most : (k : ℕ) (t : Bool) (x y : ℕ) → x ≤ k → y ≤ k → cond t x y ≤ k
+at-most k = either (λ n. n ≤ k)
+
+module _ (h : Head) where
+  lanes-in : lanes h ≤ 32
+  unfolding lanes
+  lanes-in =
+      at-most 32 (embeddedRounding h) 32 _ (lit≤ tt)
+      (at-most 32 (eqb (lengthBits h) 0) 8 _ (lit≤ tt) (at-most 32 (eqb (lengthBits h) 1) 16 32 (lit≤ tt) (lit≤ tt)))
+
+  rounding-in : RoundingIn (rounding h)
+  unfolding rounding
+  rounding-in = either RoundingIn (embeddedRounding h) (Embedded (lengthBits h)) Control (omega arith) tt
+
+  destination-in : destination h < 32
+  destination-in = omega arith
+
+  first-in : (row : Row) → SourceIn (first h row)
+  unfolding first
+  first-in row = either SourceIn (hasFirst row) (source.Register (firstSource h)) source.None (omega arith) tt
+
+  base-bits-in : baseBits h ≤ 7
+  unfolding baseBits
+  base-bits-in = at-most 7 (hasSib h) (bits (h .sib) 0 3) (rm h) (omega arith) (omega arith)
+
+  base-in : BaseIn (baseOf h)
+  unfolding baseOf
+  base-in =
+      either BaseIn (noBase h) _ _
+      (either BaseIn (hasSib h) base.None base.NextInstruction tt tt)
+      (omega (arith, base-bits-in))
+
+  index-in : IndexIn (indexOf h)
+  unfolding indexOf
+  index-in =
+      either IndexIn (hasSib h && not (eqb (indexNumber h) 4)) (index.Scaled (indexNumber h) (bits (h .sib) 6 2)) index.None
+      (omega arith, omega arith) tt
+
+  second-in : (d : ℤ) → OperandIn (second h d)
+  unfolding second
+  second-in d =
+      either OperandIn (registerForm h) (operand.Register (secondSource h))
+      (operand.Memory (record { base = baseOf h; index = indexOf h; displacement = d }) (b h))
+      (omega arith) (base-in, index-in)
+
+  size-in : size h ≤ 11
+  unfolding size displacementAt displacementSize
+  size-in =
+      add-le-add (at-most 7 (hasSib h) 7 6 (lit≤ tt) (lit≤ tt))
+      (at-most 4 (eqb (modBits h) 1) 1 _ (lit≤ tt) (at-most 4 (eqb (modBits h) 2 || noBase h) 4 0 (lit≤ tt) (lit≤ tt)))
+
+  instruction-in : (row : Row) (d : ℤ) → Bounds (instruction h row d)
+  unfolding instruction
+  instruction-in row d =
+      record {
+        lanes = lanes-in;
+        rounding = rounding-in;
+        mask = omega arith;
+        destination = destination-in;
+        first = first-in row;
+        second = second-in d;
+        size = size-in;
+      }
+
+-- ---- the whole
+
+abbrev DecodedIn : Decoded → Type 0
+DecodedIn (Fields i) = Bounds i
+DecodedIn (Refused r) = Unit {0}
+
+fields-in : (h : Head) (code : List ℕ) (l : Listed) → DecodedIn (fields h code l)
+fields-in h code (Found row) = instruction-in h row (displacementOf h code)
+fields-in h code Nothing = tt
+
+first-of : (cs : List (Bool × Refusal)) (d : Decoded) → DecodedIn d → DecodedIn (firstOf (map (λ c. (c .0, Refused (c .1))) cs) d)
+first-of [] d p = p
+first-of (c ∷ cs) d p = either DecodedIn (c .0) (Refused (c .1)) _ tt (first-of cs d p)
+
+decoded-in : (code : List ℕ) → DecodedIn (decoded code)
+unfolding decoded
+decoded-in code = first-of (refusals code) (fields (headOf code) code (listed (headOf code))) (fields-in (headOf code) code (listed (headOf code)))
+
+pub bounds : (code : List ℕ) {i : Instruction} → decoded code ≡ Fields i → Bounds i
+bounds code e = subst DecodedIn e (decoded-in code)

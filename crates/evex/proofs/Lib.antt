@@ -1,0 +1,7 @@
+pub mod Shifts
+pub mod Signed
+pub mod Search
+pub mod Order
+pub mod Answer
+pub mod Bounds
+pub mod Examples

@@ -1,0 +1,107 @@
+-- What `decode` returns, a law for each `return`: the tests on the way are the conditions before it, none of which holds.
+-- Assumes nothing.
+use mathlib.Core.Path.{_≡_, refl}
+use mathlib.Core.Bool.{Bool, true, false, cond, _||_}
+use mathlib.Core.List.{List, [], _∷_, map}
+use Prim.Native.Nat.{ℕ, _<_, _≤_}
+use borrow.Author.Tests.{ne-eqb, lt-ltb, le-ltb}
+use lib.ListN.{length, drop}
+use Rattle.evex.specs.First.{firstOf}
+use Rattle.evex.specs.Bits.{byte}
+use Rattle.evex.specs.Fields.{headOf, listed, size, displacementOf, instruction}
+use Rattle.evex.specs.Decode.{noBytes, wrongFirstByte, fewerThanSixBytes, wrongFixedBits, notInList, reservedLength, zeroingWithoutMask, extraSource, bytesMissing, longerThanFifteenBytes, refusals, fields, decoded}
+use Rattle.evex.specs.declared.head.Head.{Head}
+use Rattle.evex.specs.declared.list.Row.{Row}
+use Rattle.evex.specs.declared.list.Listed.the-variants.{Found, Nothing}
+use Rattle.evex.specs.declared.Refusal.the-variants.{Cut, Unlisted, Reserved, TooLong}
+use Rattle.evex.specs.declared.Decoded.{Decoded}
+use Rattle.evex.specs.declared.Decoded.the-variants.{Fields, Refused}
+
+-- ---- what the tests have shown on the way
+
+-- six bytes or more, the first 62
+pub record Begun (code : List ℕ) : Type 0 where
+  pub some : length code ≡ 0 → ⊥
+  pub evex : byte code 0 ≡ 0x62
+  pub six : 6 ≤ length code
+
+pub record Headed (code : List ℕ) (h : Head) : Type 0 where
+  pub begun : Begun code
+  pub head : h ≡ headOf code
+  pub fixed : wrongFixedBits h ≡ false
+
+abbrev pub isReserved : Head → Row → Bool
+isReserved h row = reservedLength h || zeroingWithoutMask h || extraSource h (Found row)
+
+pub record Rowed (code : List ℕ) (h : Head) (row : Row) : Type 0 where
+  pub headed : Headed code h
+  pub found : listed h ≡ Found row
+  pub plain : isReserved h row ≡ false
+
+-- ---- the first three conditions
+
+module _ (code : List ℕ) where
+  pub no-bytes : length code ≡ 0 → Refused Cut ≡ decoded code
+  unfolding decoded refusals noBytes
+  no-bytes e = rw e
+
+  pub first-byte : (length code ≡ 0 → ⊥) → (byte code 0 ≡ 0x62 → ⊥) → Refused Unlisted ≡ decoded code
+  unfolding decoded refusals noBytes wrongFirstByte
+  first-byte some n = rw (ne-eqb (length code) 0 some, ne-eqb (byte code 0) 0x62 n)
+
+  pub few-bytes : (length code ≡ 0 → ⊥) → byte code 0 ≡ 0x62 → length code < 6 → Refused Cut ≡ decoded code
+  unfolding decoded refusals noBytes wrongFirstByte fewerThanSixBytes
+  few-bytes some evex s = rw (ne-eqb (length code) 0 some, evex, lt-ltb (length code) 6 s)
+
+  -- what is left of the order then
+  rest : Begun code
+      → firstOf (map (λ c. (c .0, Refused (c .1))) (drop 3 (refusals code))) (fields (headOf code) code (listed (headOf code))) ≡ decoded code
+  unfolding decoded refusals noBytes wrongFirstByte fewerThanSixBytes
+  rest g = rw (ne-eqb (length code) 0 (g .some), g .evex, le-ltb (length code) 6 (g .six))
+
+-- ---- the conditions of the head
+
+-- one answer beside three conditions
+of-three : {A : Type 0} (a b c : Bool) (x y : A) → cond (a || b || c) x y ≡ cond a x (cond b x (cond c x y))
+of-three true b c x y = refl
+of-three false true c x y = refl
+of-three false false c x y = refl
+
+-- the last two conditions, and the fields
+abbrev ending : List ℕ → Head → Row → Decoded
+ending code h row =
+    firstOf ((bytesMissing h code, Refused Cut) ∷ (longerThanFifteenBytes h, Refused TooLong) ∷ [])
+    (Fields (instruction h row (displacementOf h code)))
+
+module _ {code : List ℕ} {h : Head} where
+  pub fixed-bits : Begun code → h ≡ headOf code → wrongFixedBits h ≡ true → Refused Reserved ≡ decoded code
+  unfolding refusals
+  fixed-bits g e t = rw (← rest code g, ← e, t)
+
+  pub unlisted : Headed code h → listed h ≡ Nothing → Refused Unlisted ≡ decoded code
+  unfolding refusals notInList
+  unlisted g n = rw (← rest code (g .begun), ← g .head, g .fixed, n)
+
+  module _ {row : Row} where
+    after-list : Headed code h → listed h ≡ Found row → cond (isReserved h row) (Refused Reserved) (ending code h row) ≡ decoded code
+    unfolding refusals notInList
+    after-list g found =
+        rw (← rest code (g .begun), ← g .head, g .fixed, found)
+        (of-three (reservedLength h) (zeroingWithoutMask h) (extraSource h (Found row)) (Refused Reserved) (ending code h row))
+
+    pub reserved : Headed code h → listed h ≡ Found row → isReserved h row ≡ true → Refused Reserved ≡ decoded code
+    reserved g found t = rw (← after-list g found, t)
+
+    module _ (g : Rowed code h row) {n : ℕ} (e : n ≡ size h) where
+      pub missing : length code < n → Refused Cut ≡ decoded code
+      unfolding bytesMissing
+      missing s = rw (← after-list (g .headed) (g .found), g .plain, ← e, lt-ltb (length code) n s)
+
+      module _ (whole : n ≤ length code) where
+        pub too-long : 15 < n → Refused TooLong ≡ decoded code
+        unfolding bytesMissing longerThanFifteenBytes
+        too-long s = rw (← after-list (g .headed) (g .found), g .plain, ← e, le-ltb (length code) n whole, lt-ltb 15 n s)
+
+        pub accepted : n ≤ 15 → Fields (instruction h row (displacementOf h code)) ≡ decoded code
+        unfolding bytesMissing longerThanFifteenBytes
+        accepted s = rw (← after-list (g .headed) (g .found), g .plain, ← e, le-ltb (length code) n whole, le-ltb 15 n s)

@@ -1,0 +1,30 @@
+-- Bits of a byte, and the numbers that bytes stand for.
+use Prim.Native.Nat.{ℕ, _+_, _-_, _*_, _/_, _%_, _^_}
+use mathlib.Core.Bool.{Bool, cond}
+use mathlib.Core.List.{List}
+use lib.Dec.{eqb, ltb}
+use lib.IntN.{ℤ, pos, _-ℤ_}
+use lib.ListN.{getD}
+
+-- `width` bits of x, from bit `at` on.
+abbrev pub bits : ℕ → ℕ → ℕ → ℕ
+bits x at width = x / 2 ^ at % 2 ^ width
+
+abbrev pub isSet : ℕ → ℕ → Bool
+isSet x at = eqb (bits x at 1) 1
+
+-- The same bits, where they are stored inverted.
+abbrev pub inverted : ℕ → ℕ → ℕ → ℕ
+inverted x at width = 2 ^ width - 1 - bits x at width
+
+-- The byte at a place; past the end it reads as 0.
+abbrev pub byte : List ℕ → ℕ → ℕ
+byte code at = getD code at 0
+
+-- The number of four bytes from a place on, the lowest first.
+abbrev pub word : List ℕ → ℕ → ℕ
+word code at = byte code at + byte code (at + 1) * 2 ^ 8 + byte code (at + 2) * 2 ^ 16 + byte code (at + 3) * 2 ^ 24
+
+-- The signed number that `width` bits stand for (two's complement).
+abbrev pub signed : ℕ → ℕ → ℤ
+signed width x = cond (ltb x (2 ^ (width - 1))) (pos x) (pos x -ℤ pos (2 ^ width))

@@ -1,0 +1,353 @@
+// The bytes of an instruction up to its displacement, and what they say.
+ghost use mathlib.Core.Path.{_≡_};
+ghost use mathlib.Core.Bool.{cond, _||_};
+ghost use Prim.Native.Nat.{_≤_, _<_};
+ghost use lib.ListN.{length};
+ghost use Rattle.evex.specs.Bits.{byte};
+ghost use Rattle.evex.specs.Fields.{takesSib, headOf, b, lengthBits, registerForm, embeddedRounding, listed, destination, firstSource, secondSource, first, lanes, rounding, hasSib, baseBits, noBase, baseOf, indexNumber, indexOf, displacementAt, displacementSize, size, N, displacementOf, second, instruction};
+ghost use Rattle.evex.specs.Decode.{wrongFixedBits, reservedLength, zeroingWithoutMask, extraSource};
+ghost use Rattle.evex.specs.declared.list.Listed.the-variants.{Found};
+use super::Address;
+use super::Base;
+use super::Index;
+use super::Instruction;
+use super::Operand;
+use super::Rounding;
+use super::Source;
+use super::bits::bits;
+use super::bits::byte_at;
+use super::bits::inverted;
+use super::bits::is_set;
+use super::bits::joined;
+use super::bits::register;
+use super::bits::scaled;
+use super::bits::signed8;
+use super::bits::signed32;
+use super::bits::word_at;
+use super::list::Listed;
+use super::list::Row;
+use super::list::find;
+
+// Byte 0 is 62. `sib` is 0 where there is no SIB byte.
+pub struct Head {
+    pub byte1: u8,
+    pub byte2: u8,
+    pub byte3: u8,
+    pub opcode: u8,
+    pub modrm: u8,
+    pub sib: u8,
+}
+
+// In a memory form rm 100 takes a SIB byte.
+fn takes_sib(modrm: u8) -> bool
+    ensures { λ r. ⌜ r ≡ takesSib modrm ⌝ }
+{
+    (bits(modrm, 6, 2) != 3) & (bits(modrm, 0, 3) == 4)
+}
+
+// The SIB byte, 0 where there is none or where it is missing.
+fn sib_after(modrm: u8, code: &[u8]) -> u8
+    ensures { λ r. ⌜ r ≡ cond (takesSib modrm) (byte (now (code .entry)) 6) 0 ⌝ }
+{
+    if takes_sib(modrm) {
+        return byte_at(code, 6);
+    }
+    0
+}
+
+impl Head {
+    // Bytes 1 to 5 and the SIB byte, if they take one.
+    pub(crate) fn of(code: &[u8]) -> Head
+        requires { ⌜ 6 ≤ length (now code) ⌝ }
+        ensures { λ r. ⌜ r ≡ headOf (now (code .entry)) ⌝ }
+    {
+        Head {
+            byte1: code[1],
+            byte2: code[2],
+            byte3: code[3],
+            opcode: code[4],
+            modrm: code[5],
+            sib: sib_after(code[5], code),
+        }
+    }
+
+    fn length_bits(self) -> u8
+        ensures { λ r. ⌜ r ≡ lengthBits self ⌝ }
+    {
+        bits(self.byte3, 5, 2)
+    }
+
+    fn has_b(self) -> bool
+        ensures { λ r. ⌜ r ≡ b self ⌝ }
+    {
+        is_set(self.byte3, 4)
+    }
+
+    // With mod 3 the second source is a register.
+    fn is_register_form(self) -> bool
+        ensures { λ r. ⌜ r ≡ registerForm self ⌝ }
+    {
+        bits(self.modrm, 6, 2) == 3
+    }
+
+    // In register form with b the length bits are the rounding mode.
+    fn embeds_rounding(self) -> bool
+        ensures { λ r. ⌜ r ≡ embeddedRounding self ⌝ }
+    {
+        self.is_register_form() & self.has_b()
+    }
+
+    // R' R reg.
+    fn destination(self) -> usize
+        ensures { λ r. ⌜ r ≡ destination self ⌝ }
+    {
+        register(
+            inverted(self.byte1, 4, 1),
+            inverted(self.byte1, 7, 1),
+            bits(self.modrm, 3, 3),
+        )
+    }
+
+    // V' vvvv.
+    fn first_source(self) -> usize
+        ensures { λ r. ⌜ r ≡ firstSource self ⌝ }
+    {
+        joined(inverted(self.byte3, 3, 1), 4, inverted(self.byte2, 3, 4)) as usize
+    }
+
+    // X B rm.
+    fn second_source(self) -> usize
+        ensures { λ r. ⌜ r ≡ secondSource self ⌝ }
+    {
+        register(
+            inverted(self.byte1, 6, 1),
+            inverted(self.byte1, 5, 1),
+            bits(self.modrm, 0, 3),
+        )
+    }
+
+    // VSQRTPH has none.
+    fn first(self, row: Row) -> Source
+        ensures { λ r. ⌜ r ≡ first self row ⌝ }
+    {
+        let has_first = row.5;
+        if has_first {
+            return Source::Register(self.first_source());
+        }
+        Source::None
+    }
+
+    fn lanes(self) -> u8
+        ensures { λ r. ⌜ (r ≡ lanes self) × (r ≤ 32) ⌝ }
+    {
+        if self.embeds_rounding() {
+            return 32;
+        }
+        match self.length_bits() {
+            0 => 8,
+            1 => 16,
+            _ => 32,
+        }
+    }
+
+    fn rounding(self) -> Rounding
+        ensures { λ r. ⌜ r ≡ rounding self ⌝ }
+    {
+        if self.embeds_rounding() {
+            return Rounding::Embedded(self.length_bits());
+        }
+        Rounding::Control
+    }
+
+    fn has_sib(self) -> bool
+        ensures { λ r. ⌜ r ≡ hasSib self ⌝ }
+    {
+        takes_sib(self.modrm)
+    }
+
+    // Of the SIB byte, or rm where there is none.
+    fn base_bits(self) -> u8
+        ensures { λ r. ⌜ (r ≡ baseBits self) × (r < 8) ⌝ }
+    {
+        if self.has_sib() {
+            return bits(self.sib, 0, 3);
+        }
+        bits(self.modrm, 0, 3)
+    }
+
+    // With mod 0, 101: no base after a SIB byte, and else the next instruction.
+    fn has_no_base(self) -> bool
+        ensures { λ r. ⌜ r ≡ noBase self ⌝ }
+    {
+        (bits(self.modrm, 6, 2) == 0) & (self.base_bits() == 5)
+    }
+
+    fn base(self) -> Base
+        ensures { λ r. ⌜ r ≡ baseOf self ⌝ }
+    {
+        if self.has_no_base() {
+            if self.has_sib() {
+                return Base::None;
+            }
+            return Base::NextInstruction;
+        }
+        Base::General(register(0, inverted(self.byte1, 5, 1), self.base_bits()))
+    }
+
+    // X and the index bits of the SIB byte.
+    fn index_number(self) -> usize
+        ensures { λ r. ⌜ r ≡ indexNumber self ⌝ }
+    {
+        register(0, inverted(self.byte1, 6, 1), bits(self.sib, 3, 3))
+    }
+
+    // Number 4 means none.
+    fn index(self) -> Index
+        ensures { λ r. ⌜ r ≡ indexOf self ⌝ }
+    {
+        let number = self.index_number();
+        if self.has_sib() & (number != 4) {
+            return Index::Scaled {
+                number,
+                scale: bits(self.sib, 6, 2),
+            };
+        }
+        Index::None
+    }
+
+    fn displacement_at(self) -> usize
+        ensures { λ r. ⌜ (r ≡ displacementAt self) × (r ≤ 7) ⌝ }
+    {
+        if self.has_sib() {
+            return 7;
+        }
+        6
+    }
+
+    fn displacement_size(self) -> usize
+        ensures { λ r. ⌜ (r ≡ displacementSize self) × (r ≤ 4) ⌝ }
+    {
+        let form = bits(self.modrm, 6, 2);
+        if form == 1 {
+            return 1;
+        }
+        if (form == 2) | self.has_no_base() {
+            return 4;
+        }
+        0
+    }
+
+    // The instruction's length in bytes.
+    pub(crate) fn size(self) -> usize
+        ensures { λ r. ⌜ r ≡ size self ⌝ }
+    {
+        self.displacement_at() + self.displacement_size()
+    }
+
+    // N: the bytes that an 8-bit displacement counts in.
+    fn unit(self) -> u8
+        ensures { λ r. ⌜ r ≡ N self ⌝ }
+    {
+        if self.has_b() {
+            return 2;
+        }
+        2 * self.lanes()
+    }
+
+    pub(crate) fn displacement(self, code: &[u8]) -> i32
+        ensures { λ r. ⌜ r ≡ displacementOf self (now (code .entry)) ⌝ }
+    {
+        let at = self.displacement_at();
+        let bytes = self.displacement_size();
+        if bytes == 1 {
+            return scaled(signed8(byte_at(code, at)), self.unit());
+        }
+        if bytes == 4 {
+            return signed32(word_at(code, at));
+        }
+        0
+    }
+
+    fn second(self, displacement: i32) -> Operand
+        ensures { λ r. ⌜ r ≡ second self displacement ⌝ }
+    {
+        if self.is_register_form() {
+            return Operand::Register(self.second_source());
+        }
+        let base = self.base();
+        let index = self.index();
+        let address = Address {
+            base,
+            index,
+            displacement,
+        };
+        Operand::Memory {
+            address,
+            broadcast: self.has_b(),
+        }
+    }
+
+    pub(crate) fn instruction(self, row: Row, displacement: i32) -> Instruction
+        ensures { λ r. ⌜ r ≡ instruction self row displacement ⌝ }
+    {
+        let operation = row.4;
+        let rounding = self.rounding();
+        let first = self.first(row);
+        let second = self.second(displacement);
+        Instruction {
+            operation,
+            lanes: self.lanes() as usize,
+            rounding,
+            zeroing: is_set(self.byte3, 7),
+            mask: bits(self.byte3, 0, 3) as usize,
+            destination: self.destination(),
+            first,
+            second,
+            size: self.size(),
+        }
+    }
+
+    // Byte 1 bit 3 is to be clear, and byte 2 bit 2 set.
+    pub(crate) fn has_wrong_fixed_bits(self) -> bool
+        ensures { λ r. ⌜ r ≡ wrongFixedBits self ⌝ }
+    {
+        is_set(self.byte1, 3) | !is_set(self.byte2, 2)
+    }
+
+    pub(crate) fn listed(self) -> Listed
+        ensures { λ r. ⌜ r ≡ listed self ⌝ }
+    {
+        let prefix = bits(self.byte2, 0, 2);
+        let map = bits(self.byte1, 0, 3);
+        let w = bits(self.byte2, 7, 1);
+        find(prefix, map, w, self.opcode)
+    }
+
+    // Length bits 11 outside the embedded-rounding form.
+    fn has_reserved_length(self) -> bool
+        ensures { λ r. ⌜ r ≡ reservedLength self ⌝ }
+    {
+        (self.length_bits() == 3) & !self.embeds_rounding()
+    }
+
+    // z with aaa 000.
+    fn zeroes_without_mask(self) -> bool
+        ensures { λ r. ⌜ r ≡ zeroingWithoutMask self ⌝ }
+    {
+        is_set(self.byte3, 7) & (bits(self.byte3, 0, 3) == 0)
+    }
+
+    // VSQRTPH with a first source.
+    fn has_extra_source(self, row: Row) -> bool
+        ensures { λ r. ⌜ r ≡ extraSource self (Found row) ⌝ }
+    {
+        let has_first = row.5;
+        !has_first & (self.first_source() != 0)
+    }
+
+    pub(crate) fn is_reserved(self, row: Row) -> bool
+        ensures { λ r. ⌜ r ≡ reservedLength self || zeroingWithoutMask self || extraSource self (Found row) ⌝ }
+    {
+        self.has_reserved_length() | self.zeroes_without_mask() | self.has_extra_source(row)
+    }
+}

@@ -1,0 +1,130 @@
+// The bytes of an instruction: its fields, or why they are refused (document 01, 'Fields of an instruction').
+ghost use mathlib.Core.Path.{_≡_};
+ghost use Rattle.evex.specs.Decode.{decoded, numberOf};
+use head::Head;
+use list::Listed;
+
+mod bits;
+mod head;
+mod list;
+
+pub enum Operation {
+    Add,
+    Multiply,
+    Subtract,
+    Divide,
+    SquareRoot,
+    Fused132,
+    Fused213,
+    Fused231,
+}
+
+// Whose rounding mode counts: the control word's, or the one that the instruction gives, 0 to 3.
+pub enum Rounding {
+    Control,
+    Embedded(u8),
+}
+
+// The first source: a vector register, or none.
+pub enum Source {
+    None,
+    Register(usize),
+}
+
+// What an address starts from: nothing, a general register, or the next instruction's address.
+pub enum Base {
+    None,
+    General(usize),
+    NextInstruction,
+}
+
+// The general register whose value times 2 to the `scale` is added.
+pub enum Index {
+    None,
+    Scaled { number: usize, scale: u8 },
+}
+
+pub struct Address {
+    pub base: Base,
+    pub index: Index,
+    pub displacement: i32,
+}
+
+// The second source: a vector register, or memory, where with broadcast one word serves all lanes.
+pub enum Operand {
+    Register(usize),
+    Memory { address: Address, broadcast: bool },
+}
+
+// The fields of an instruction. Lanes are 8, 16 or 32; the size is its length in bytes.
+pub struct Instruction {
+    pub operation: Operation,
+    pub lanes: usize,
+    pub rounding: Rounding,
+    pub zeroing: bool,
+    pub mask: usize,
+    pub destination: usize,
+    pub first: Source,
+    pub second: Operand,
+    pub size: usize,
+}
+
+// Why bytes are refused: they end inside the instruction; they are not in the list; reserved encoding; more than 15 bytes.
+pub enum Refusal {
+    Cut,
+    Unlisted,
+    Reserved,
+    TooLong,
+}
+
+pub enum Decoded {
+    Fields(Instruction),
+    Refused(Refusal),
+}
+
+impl Refusal {
+    // Document 01's number.
+    pub fn number(self) -> u32
+        ensures { λ r. ⌜ r ≡ numberOf self ⌝ }
+    {
+        match self {
+            Refusal::Cut => 3,
+            Refusal::Unlisted => 4,
+            Refusal::Reserved => 5,
+            Refusal::TooLong => 6,
+        }
+    }
+}
+
+// The instruction that the bytes begin with. What follows it is not looked at.
+pub fn decode(code: &[u8]) -> Decoded
+    ensures { λ r. ⌜ r ≡ decoded (now (code .entry)) ⌝ }
+{
+    if code.len() == 0 {
+        return Decoded::Refused(Refusal::Cut);
+    }
+    if code[0] != 0x62 {
+        return Decoded::Refused(Refusal::Unlisted);
+    }
+    if code.len() < 6 {
+        return Decoded::Refused(Refusal::Cut);
+    }
+    let head = Head::of(code);
+    if head.has_wrong_fixed_bits() {
+        return Decoded::Refused(Refusal::Reserved);
+    }
+    let Listed::Found(row) = head.listed() else {
+        return Decoded::Refused(Refusal::Unlisted);
+    };
+    if head.is_reserved(row) {
+        return Decoded::Refused(Refusal::Reserved);
+    }
+    let size = head.size();
+    if code.len() < size {
+        return Decoded::Refused(Refusal::Cut);
+    }
+    if 15 < size {
+        return Decoded::Refused(Refusal::TooLong);
+    }
+    Decoded::Fields(head.instruction(row, head.displacement(code)))
+}

@@ -1,0 +1,51 @@
+// The list of instructions (document 01, 'What the machine carries').
+ghost use mathlib.Core.Path.{_≡_};
+ghost use mathlib.Core.List.{_∷_};
+ghost use Prim.Native.Nat.{_+_, _<_};
+ghost use lib.ListN.{length, drop};
+ghost use Rattle.evex.specs.List.{rows, find};
+use super::Operation;
+
+// Prefix bits, map, W, opcode; the operation; whether there is a first source.
+pub struct Row(pub u8, pub u8, pub u8, pub u8, pub Operation, pub bool);
+
+pub enum Listed {
+    Found(Row),
+    Nothing,
+}
+
+const COUNT: usize = 8;
+
+const ROWS: [Row; COUNT] = [
+    Row(0, 5, 0, 0x58, Operation::Add, true),
+    Row(0, 5, 0, 0x59, Operation::Multiply, true),
+    Row(0, 5, 0, 0x5c, Operation::Subtract, true),
+    Row(0, 5, 0, 0x5e, Operation::Divide, true),
+    Row(0, 5, 0, 0x51, Operation::SquareRoot, false),
+    Row(1, 6, 0, 0x98, Operation::Fused132, true),
+    Row(1, 6, 0, 0xa8, Operation::Fused213, true),
+    Row(1, 6, 0, 0xb8, Operation::Fused231, true),
+];
+
+// Row i, which stands before the rest. A function of its own: its proof holds the whole table, and the search below none of it.
+fn row_at(i: usize) -> Row
+    requires { ⌜ i < length rows ⌝ }
+    ensures { λ r. ⌜ drop i rows ≡ r ∷ drop (i + 1) rows ⌝ }
+{
+    ROWS[i]
+}
+
+// The row that has these.
+pub(crate) fn find(prefix: u8, map: u8, w: u8, opcode: u8) -> Listed
+    ensures { λ r. ⌜ r ≡ find rows prefix map w opcode ⌝ }
+{
+    let mut i = 0;
+    while i < COUNT {
+        let row = row_at(i);
+        if (row.0 == prefix) & (row.1 == map) & (row.2 == w) & (row.3 == opcode) {
+            return Listed::Found(row);
+        }
+        i += 1;
+    }
+    Listed::Nothing
+}

@@ -1,0 +1,37 @@
+-- The directed roundings of signed numbers. Down and up are one argument: up is down with all signs turned.
+use Prim.Native.Nat.{ℕ, _^_, _≤_, _<_}
+use mathlib.Core.Bool.{Bool, true, false, not}
+use mathlib.Core.Path.{_≡_, refl}
+use native.Mathlib.Omega.{arith}
+use Rattle.half.specs.Exact.{Magnitude, denominator, isNearest, outward}
+use Rattle.half.specs.Round.{delivered}
+use Rattle.half.specs.declared.Mode.{Mode}
+use Rattle.half_laws.specs.Values.{NotAbove, SignedLe}
+use Rattle.half_laws.proofs.Sides.{most-le, le-most, least-ge, ge-least}
+use Rattle.half_laws.proofs.Grid.{OnGrid, toward-zero, away-from-zero}
+
+zero-on-grid : OnGrid 0
+zero-on-grid = (0, 0, omega arith, refl)
+
+-- A mode that leads away from zero exactly if t: what is delivered, with the sign t, is the greatest number on the grid not above ± x.
+pub greatest : (mode : Mode) (neg t : Bool) (x : Magnitude) → 0 < denominator x → isNearest mode ≡ false → outward mode neg ≡ t
+    → NotAbove t (delivered mode neg x) t x × ((s : Bool) (m : ℕ) → OnGrid m → NotAbove s m t x → SignedLe s m t (delivered mode neg x))
+greatest mode neg false x hd e o = (ge-least x (delivered mode neg x) (2 ^ 24) (toward-zero 24 x hd mode neg e o .0), best)
+  where
+    best : (s : Bool) (m : ℕ) → OnGrid m → NotAbove s m false x → SignedLe s m false (delivered mode neg x)
+    best false m g l = toward-zero 24 x hd mode neg e o .1 m g (least-ge x m (2 ^ 24) l)
+    best true m g l = tt
+greatest mode neg true x hd e o = (le-most x (delivered mode neg x) (2 ^ 24) (away-from-zero 24 x hd mode neg e o .0), best)
+  where
+    best : (s : Bool) (m : ℕ) → OnGrid m → NotAbove s m true x → SignedLe s m true (delivered mode neg x)
+    best true m g l = away-from-zero 24 x hd mode neg e o .1 m g (most-le x m (2 ^ 24) l)
+    best false m g l =
+        let z : delivered mode neg x ≤ 0 = away-from-zero 24 x hd mode neg e o .1 0 zero-on-grid (most-le x 0 (2 ^ 24) (l .1)) in
+        (l .0, omega arith)
+
+-- with both signs turned the order turns
+pub turned : (s t : Bool) (m n : ℕ) → SignedLe (not s) m (not t) n → SignedLe t n s m
+turned false false m n h = h
+turned true true m n h = h
+turned true false m n h = (h .1, h .0)
+turned false true m n h = tt

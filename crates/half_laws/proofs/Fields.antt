@@ -1,0 +1,116 @@
+-- The fields that `encode` writes are read back by `units`, and keep the order of numbers.
+use Prim.Native.Nat.{ℕ, zero, suc, _+_, _-_, _*_, _/_, _%_, _^_, _≤_, _<_}
+use mathlib.Core.Bool.{Bool, true, false}
+use mathlib.Core.Path.{_≡_, refl, sym, ap, _∙_}
+use native.Mathlib.Omega.{arith}
+use native.Mathlib.Nat.{le-trans, le-of-eq, lt-of-lt-of-le, lt-of-le-of-lt, le-div-iff-mul-le, div-lt-iff-lt-mul}
+use lib.Dec.{ltb}
+use lib.Pow.{pow-pos, pow-mono, pow-add, shr-mono}
+use lib.Ieee.{size}
+use lib.Ieee.Digits.{size-lt, size-le, size-reaches}
+use borrow.Author.Tests.{eq-eqb, ne-eqb, ltb-true, ltb-false}
+use Rattle.half.specs.Format.{exponentField, fractionField, isFinite, negative, signed, units}
+use Rattle.half.specs.Round.{encode}
+use Rattle.half.proofs.Bridge.{encode-is}
+
+-- ---- units, by the exponent field
+
+units-small : (n : ℕ) → exponentField n ≡ 0 → units n ≡ fractionField n * 2 ^ 0
+unfolding units
+units-small n e = rw e
+
+units-large : (n e : ℕ) → exponentField n ≡ suc e → units n ≡ (1024 + fractionField n) * 2 ^ e
+unfolding units
+units-large n e h = let d : suc e - 1 ≡ e = omega arith in rw (h, d, ne-eqb (suc e) 0 (λ (z : suc e ≡ 0). omega arith))
+
+-- the number of the fields of q * 2 ^ k
+pub units-fields : (k q : ℕ) → q ≤ 2048 → (q < 1024 → k ≡ 0) → k * 1024 + q < 32768 → units (k * 1024 + q) ≡ q * 2 ^ k
+units-fields k q hi lo fits = go (ltb q 1024) (ltb q 2048) refl refl
+  where
+    go : (a b : Bool) → ltb q 1024 ≡ a → ltb q 2048 ≡ b → units (k * 1024 + q) ≡ q * 2 ^ k
+    go true b e f =
+        let l : q < 1024 = ltb-true _ _ e in
+        let z : k ≡ 0 = lo l in
+        rw z (units-small (0 * 1024 + q) (omega arith) ∙ (let y : (0 * 1024 + q) % 1024 * 2 ^ 0 ≡ q * 2 ^ 0 = omega arith in y))
+    go false true e f =
+        let l : 1024 ≤ q = ltb-false _ _ e in
+        let h : q < 2048 = ltb-true _ _ f in
+        units-large (k * 1024 + q) k (omega arith) ∙ ap (λ (y : ℕ). y * 2 ^ k) (let y : 1024 + (k * 1024 + q) % 1024 ≡ q = omega arith in y)
+    go false false e f =
+        let l : 2048 ≤ q = ltb-false _ _ f in
+        let s : q ≡ 2048 = omega arith in
+        units-large (k * 1024 + q) (suc k) (omega arith) ∙ ap (λ (y : ℕ). y * 2 ^ suc k) (let y : 1024 + (k * 1024 + q) % 1024 ≡ 1024 = omega arith in y) ∙ rw s (omega arith)
+
+-- the fields of a half's number are the half's
+pub encode-units : (h : ℕ) → encode (units h) ≡ h % 32768
+encode-units h = go (exponentField h) refl
+  where
+    go : (e : ℕ) → exponentField h ≡ e → encode (units h) ≡ h % 32768
+    go zero e = ap encode (units-small h e) ∙ encode-is 0 (fractionField h) (omega arith) (λ (z : fractionField h < 1024). refl) ∙ (let y : 0 * 1024 + h % 1024 ≡ h % 32768 = omega arith in y)
+    go (suc e) p =
+        ap encode (units-large h e p) ∙ encode-is e (1024 + fractionField h) (omega arith) (λ (z : 1024 + fractionField h < 1024). omega arith) ∙ (let y : e * 1024 + (1024 + h % 1024) ≡ h % 32768 = omega arith in y)
+
+-- ---- a larger number has larger fields
+pub encode-mono : (m n : ℕ) → m ≤ n → encode m ≤ encode n
+unfolding encode
+encode-mono m n h = go (ltb (size m - 11) (size n - 11)) refl
+  where
+    sizes : size m ≤ size n
+    sizes = size-le m (size n) (lt-of-le-of-lt h (size-lt n))
+
+    top : m / 2 ^ (size m - 11) < 2048
+    top = div-lt-iff-lt-mul (pow-pos (size m - 11)) .1 (lt-of-lt-of-le (size-lt m) (le-trans (pow-mono {i = size m} {j = 11 + (size m - 11)} (omega arith)) (le-of-eq (pow-add 2 11 (size m - 11)))))
+
+    go : (b : Bool) → ltb (size m - 11) (size n - 11) ≡ b → (size m - 11) * 1024 + m / 2 ^ (size m - 11) ≤ (size n - 11) * 1024 + n / 2 ^ (size n - 11)
+    go true e =
+        let l : size m - 11 < size n - 11 = ltb-true _ _ e in
+        let b : 1024 ≤ n / 2 ^ (size n - 11) = le-div-iff-mul-le (pow-pos (size n - 11)) .1 (le-trans (le-of-eq (sym (pow-add 2 10 (size n - 11)))) (size-reaches n (10 + (size n - 11)) (omega arith))) in
+        omega (arith, top)
+    go false e =
+        let s : size m - 11 ≡ size n - 11 = let l : size n - 11 ≤ size m - 11 = ltb-false _ _ e in omega (arith, sizes) in
+        rw s (let q : m / 2 ^ (size n - 11) ≤ n / 2 ^ (size n - 11) = shr-mono (size n - 11) h in omega arith)
+
+-- ---- a sign before the fields
+
+pub signed-lt : (s : Bool) (m : ℕ) → m < 32768 → signed s m < 2 ^ 16
+signed-lt true m h = omega arith
+signed-lt false m h = omega arith
+
+pub signed-le : (s : Bool) (m n : ℕ) → m ≤ n → signed s m ≤ signed s n
+signed-le true m n h = omega arith
+signed-le false m n h = h
+
+pub signed-even : (s : Bool) (m : ℕ) → m % 2 ≡ 0 → signed s m % 2 ≡ 0
+signed-even true m e = omega arith
+signed-even false m e = e
+
+pub signed-negative : (s : Bool) (m : ℕ) → m < 32768 → negative (signed s m) ≡ s
+signed-negative true m h = eq-eqb ((32768 + m) / 32768) 1 (omega arith)
+signed-negative false m h = ne-eqb (m / 32768) 1 (λ (e : m / 32768 ≡ 1). omega arith)
+
+signed-exponent : (s : Bool) (m : ℕ) → exponentField (signed s m) ≡ exponentField m
+signed-exponent true m = omega arith
+signed-exponent false m = refl
+
+signed-fraction : (s : Bool) (m : ℕ) → fractionField (signed s m) ≡ fractionField m
+signed-fraction true m = omega arith
+signed-fraction false m = refl
+
+pub signed-finite : (s : Bool) (m : ℕ) → m < 31744 → isFinite (signed s m) ≡ true
+signed-finite s m h = rw (signed-exponent s m, ne-eqb (exponentField m) 31 (λ (e : exponentField m ≡ 31). omega arith))
+
+pub signed-units : (s : Bool) (m : ℕ) → units (signed s m) ≡ units m
+unfolding units
+signed-units s m = rw (signed-exponent s m, signed-fraction s m)
+
+-- a half is its own sign and fields
+pub signed-back : (h : ℕ) → h < 2 ^ 16 → signed (negative h) (h % 32768) ≡ h
+signed-back h l = go (ltb h 32768) refl
+  where
+    go : (b : Bool) → ltb h 32768 ≡ b → signed (negative h) (h % 32768) ≡ h
+    go true e =
+        let k : h < 32768 = ltb-true _ _ e in
+        rw (ne-eqb (h / 32768) 1 (λ (e : h / 32768 ≡ 1). omega arith)) (omega arith)
+    go false e =
+        let k : 32768 ≤ h = ltb-false _ _ e in
+        rw (eq-eqb (h / 32768) 1 (omega arith)) (omega arith)

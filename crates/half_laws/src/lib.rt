@@ -1,0 +1,1 @@
+// No code: the laws are stated in specs/ and proved in proofs/.
