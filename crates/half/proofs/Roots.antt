@@ -3,7 +3,7 @@ use Prim.Native.Nat.{ℕ, zero, suc, _+_, _-_, _*_, _/_, _%_, _^_, _≤_, _<_, c
 use mathlib.Core.Bool.{Bool, true, false, cond}
 use mathlib.Core.Path.{_≡_, refl, sym, ap, _∙_, subst}
 use native.Mathlib.Omega.{arith}
-use native.Mathlib.Nat.{two-pow-succ, one-mul, not-suc-le-zero, sub-self, mul-mod-left, le-of-sub-eq-zero, sub-eq-zero-of-le, mul-pos, div-add-mod', mod-lt, le-antisymm, lt-of-not-le, not-le-of-lt, lt-of-lt-of-le, lt-of-le-of-lt, le-of-lt, le-trans, le-of-eq, mul-le-mul, le-of-mul-le-mul-right, lt-of-mul-lt-mul-right, mul-mul-mul-comm, pow-succ', le-of-suc-le-suc, mul-assoc, mul-div-cancel, le-div-iff-mul-le, div-lt-iff-lt-mul}
+use native.Mathlib.Nat.{two-pow-succ, one-mul, not-suc-le-zero, sub-self, mul-mod-left, le-of-sub-eq-zero, sub-eq-zero-of-le, mul-pos, div-add-mod', mod-lt, le-antisymm, lt-of-not-le, not-le-of-lt, lt-of-lt-of-le, lt-of-le-of-lt, le-of-lt, le-trans, le-of-eq, mul-le-mul, le-of-mul-le-mul-right, lt-of-mul-lt-mul-right, mul-mul-mul-comm, pow-succ', le-of-suc-le-suc, mul-assoc, mul-div-cancel, le-div-iff-mul-le, div-lt-iff-lt-mul, mul-comm, add-comm}
 use lib.Dec.{leb}
 use lib.Arith.{digits-div, digits-mod}
 use lib.Pow.{shl-exact, shl-lt, pow-add, pow-mono, pow-pos}
@@ -95,23 +95,38 @@ root-place-cut K k n c hc hK hk =
     (λ (z : n - R / c * (R / c) ≡ 0). let u = exact-up n c R hc h z in let u0 : R % c ≡ 0 = u .0 in let u1 : n * (c * c) - R * R ≡ 0 = u .1 in omega arith) in
     rw (dv, md, m, q)
 
--- ---- the loop
-pub root-step : (i n s : ℕ) → 0 < i → rootFrom i n s ≡ rootFrom (i - 1) n (cond (leb ((s + 2 ^ (i - 1)) * (s + 2 ^ (i - 1))) n) (s + 2 ^ (i - 1)) s)
-unfolding rootFrom
-root-step zero n s h = absurd (not-suc-le-zero h)
-root-step (suc i) n s h = let e : suc i - 1 ≡ i = omega arith in rw e
+-- the mean of g and n / g is not below the root of n
+pub mean-above : (n g : ℕ) → 0 < g → n < ((g + n / g) / 2 + 1) * ((g + n / g) / 2 + 1)
+mean-above n g hg =
+    let q : ℕ = n / g in
+    let s : ℕ = (g + n / g) / 2 in
+    let a : n < (q + 1) * g = div-lt-iff-lt-mul {x = n} {y = q + 1} hg .0 (omega arith) in
+    let b : g + (q + 1) ≤ 2 * (s + 1) = omega arith in
+    let c : (g + (q + 1)) * (g + (q + 1)) ≤ 2 * (s + 1) * (2 * (s + 1)) = mul-le-mul b b in
+    let d : 4 * ((q + 1) * g) ≤ (g + (q + 1)) * (g + (q + 1)) = rw (mul-comm (q + 1) g) (means g (q + 1)) in
+    let e : 2 * (s + 1) * (2 * (s + 1)) ≡ 4 * ((s + 1) * (s + 1)) = mul-mul-mul-comm 2 (s + 1) 2 (s + 1) in
+    omega arith
+  where
+    -- 4 x y ≤ (x + y) ^ 2
+    ordered : (x k : ℕ) → 4 * (x * (x + k)) ≤ (x + (x + k)) * (x + (x + k))
+    ordered x k =
+        let a : (x + (x + k)) * (x + (x + k)) ≡ 4 * (x * (x + k)) + k * k = square x k in omega arith
+      where
+        square : (x k : ℕ) → (x + (x + k)) * (x + (x + k)) ≡ 4 * (x * (x + k)) + k * k
+        square x k = omega arith
 
-pub one-shl : (i : ℕ) → i < 64 → 1 * 2 ^ i % 2 ^ 64 ≡ 2 ^ i
-one-shl i h = shl-exact {a = 1} 1 i 64 (omega arith) (omega arith) ∙ one-mul (2 ^ i)
+    means : (x y : ℕ) → 4 * (x * y) ≤ (x + y) * (x + y)
+    means x y = go (leb x y) refl
+      where
+        go : (b : Bool) → leb x y ≡ b → 4 * (x * y) ≤ (x + y) * (x + y)
+        go true e = let l : x ≤ y = leb-true _ _ e in subst (λ (z : ℕ). 4 * (x * z) ≤ (x + z) * (x + z)) (let f : x + (y - x) ≡ y = omega arith in f) (ordered x (y - x))
+        go false e =
+            let l : y < x = leb-false _ _ e in
+            rw (mul-comm x y, add-comm x y) (subst (λ (z : ℕ). 4 * (y * z) ≤ (y + z) * (y + z)) (let f : y + (x - y) ≡ x = omega arith in f) (ordered y (x - y)))
 
-pub double : (i : ℕ) → 0 < i → 2 ^ i ≡ 2 ^ (i - 1) + 2 ^ (i - 1)
-double zero h = absurd (not-suc-le-zero h)
-double (suc i) h = let e : suc i - 1 ≡ i = omega arith in rw e (two-pow-succ i)
-
-pub root-end : (i n s r : ℕ) → i ≤ 0 → rootFrom i n s ≡ r → s ≡ r
-unfolding rootFrom
-root-end zero n s r h e = e
-root-end (suc i) n s r h e = absurd (not-suc-le-zero h)
+-- the root, found from above
+pub root-found : (n s : ℕ) → n < 2 ^ 26 → n < (s + 1) * (s + 1) → s * s ≤ n → s ≡ rootFrom 13 n 0
+root-found n s h hi lo = root-one n s (rootFrom 13 n 0) (lo, hi) (root-of 13 n (omega arith))
 
 module _ (k n s : ℕ) (h : s ≡ rootFrom k n 0) where
   pub root-even : s * s ≡ n → s * 2 ≡ rootPlace k n

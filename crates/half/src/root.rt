@@ -14,19 +14,26 @@ use super::fields;
 use super::operands;
 use super::rounding;
 
-// The largest number whose square is at most n, digit by digit.
+// Near the root of n, for an n of 25 or 26 digits: a line for each. That it is above 0 is all that is relied on.
+fn guess(n: u64) -> u64
+    requires { ⌜ n < 2 ^ 26 ⌝ }
+    ensures { λ r. ⌜ (0 < r) × (r < 2 ^ 14) ⌝ }
+{
+    if n < 0x200_0000 {
+        return 2435 + n * 1697 / 0x100_0000;
+    }
+    3445 + n * 2399 / 0x200_0000
+}
+
+// The largest number whose square is at most n. The mean of g and n / g is not below it, whatever g is, and close to it where g is.
 fn integer_root(n: u64) -> u64
     requires { ⌜ n < 2 ^ 26 ⌝ }
     ensures { λ r. ⌜ r ≡ rootFrom 13 n 0 ⌝ }
 {
-    let mut s: u64 = 0;
-    let mut i: u32 = 13;
-    while 0 < i {
-        i -= 1;
-        let c = s + (1u64 << i);
-        if c * c <= n {
-            s = c;
-        }
+    let g = guess(n);
+    let mut s = (g + n / g) / 2;
+    while n < s * s {
+        s -= 1;
     }
     s
 }

@@ -1,84 +1,52 @@
--- `half::root::integer_root` meets its contract: each turn is one step of `rootFrom`. Assumes nothing.
-use Prim.Native.Nat.{ℕ, _≤_, _<_, _+_, _-_, _*_, _^_, _%_}
-use mathlib.Core.Path.{_≡_, refl, sym, ap, _∙_}
-use mathlib.Core.Bool.{Bool, true, false, cond}
+-- The loop goes down to the root: n stays below the square of s + 1.
+use Prim.Native.Nat.{ℕ, zero, suc, _≤_, _<_, _+_, _-_, _*_, _^_}
+use mathlib.Core.Path.{_≡_, refl}
 use native.Mathlib.Omega.{arith}
-use native.Mathlib.Nat.{mul-le-mul, lt-of-le-of-lt}
-use lib.Dec.{leb, lit<}
-use lib.Pow.{pow-pos}
-use borrow.Author.Tests.{le-leb, lt-leb}
-use Rattle.half.specs.Exact.{rootFrom}
-use Rattle.half.proofs.Roots.{root-step, one-shl, double, root-end}
+use native.Mathlib.Nat.{div-le-self, mul-le-mul, lt-of-le-of-lt}
+use lib.Dec.{lit<}
+use Rattle.half.proofs.Roots.{mean-above, root-found}
 use Rattle.half.proofs.root.integer_root.Statement.{statement}
 use Rattle.half.proofs.root.integer_root.Tie as tie
 
 abbrev Inv-loop : tie.InvT-loop
-Inv-loop n s₀ i₀ s i = (i ≤ 13) × (s + 2 ^ i ≤ 2 ^ 13) × (rootFrom i n s ≡ rootFrom 13 n 0)
+Inv-loop n g s₀ s = (s < 2 ^ 27) × (n < (s + 1) * (s + 1))
 
 abbrev μ-loop : tie.MeasureT-loop
-μ-loop n s₀ i₀ s i = i
+μ-loop n g s₀ s = s
 
--- the digit to try
-abbrev bit : ℕ → ℕ
-bit i = 1 * 2 ^ (i - 1) % 2 ^ 64
+-- one down
+down : (n s : ℕ) → n < s * s → (0 < s) × (n < (s - 1 + 1) * (s - 1 + 1))
+down n zero h = absurd (let z : n < 0 * 0 = h in omega arith)
+down n (suc s) h = let e : suc s - 1 + 1 ≡ suc s = omega arith in (omega arith, rw e h)
 
-module _ (n s i : ℕ) (pos : 0 < i) (le : i ≤ 13) (room : s + 2 ^ i ≤ 2 ^ 13) where
-  bit-is : bit i ≡ 2 ^ (i - 1)
-  bit-is = one-shl (i - 1) (omega arith)
+guess-requires : tie.Need-guess-requires Inv-loop μ-loop
+guess-requires c κs = omega arith
 
-  tried : s + bit i + 2 ^ (i - 1) ≤ 2 ^ 13
-  tried = omega (arith, bit-is, double i pos)
+div-s : tie.Need-div-s Inv-loop μ-loop
+div-s c = omega (arith, c .guess .ensures)
 
-  tried-lt : s + bit i < 2 ^ 13
-  tried-lt = omega (arith, tried, bit-is, pow-pos (i - 1))
-
-  square : (s + bit i) * (s + bit i) < 2 ^ 64
-  square = lt-of-le-of-lt (mul-le-mul {n₁ = s + bit i} {m₁ = s + bit i} {n₂ = 2 ^ 13 - 1} {m₂ = 2 ^ 13 - 1} (omega (arith, tried-lt)) (omega (arith, tried-lt))) (lit< tt)
-
-  kept : rootFrom i n s ≡ rootFrom 13 n 0 → (s + bit i) * (s + bit i) ≤ n → Inv-loop n 0 13 (s + bit i) (i - 1)
-  kept e g = (omega arith, tried, rw bit-is (sym (root-step i n s pos ∙ rw (le-leb _ _ (rw bit-is at g))) ∙ e))
-
-  passed : rootFrom i n s ≡ rootFrom 13 n 0 → n < (s + bit i) * (s + bit i) → Inv-loop n 0 13 s (i - 1)
-  passed e g = (omega arith, omega (arith, double i pos), sym (root-step i n s pos ∙ rw (lt-leb _ _ (rw bit-is at g))) ∙ e)
+add-s : tie.Need-add-s Inv-loop μ-loop
+add-s c = omega (arith, c .guess .ensures, div-le-self (c .before .args .n) (c .guess .result))
 
 loop-holds : tie.Need-loop-holds Inv-loop μ-loop
-loop-holds c = (omega arith, omega arith, refl)
+loop-holds c = (omega (arith, c .guess .ensures, div-le-self (c .before .args .n) (c .guess .result)), mean-above (c .before .args .n) (c .guess .result) (c .guess .ensures .0))
 
-sub-i : tie.Need-sub-i Inv-loop μ-loop
-sub-i c = omega arith
+mul-loop : tie.Need-mul-loop Inv-loop μ-loop
+mul-loop c = record { fits = lt-of-le-of-lt (mul-le-mul {n₁ = c .loop .s} {m₁ = c .loop .s} {n₂ = 2 ^ 27} {m₂ = 2 ^ 27} (omega arith) (omega arith)) (lit< tt) }
 
-cast-c : tie.Need-cast-c Inv-loop μ-loop
-cast-c c = omega arith
-
-shl-c : tie.Need-shl-c Inv-loop μ-loop
-shl-c c = omega arith
-
-add-c : tie.Need-add-c Inv-loop μ-loop
-add-c c = let h = tried-lt (c .before .before .args .n) (c .before .loop .s) (c .before .loop .i) (c .loop-test .taken) (c .before .loop .inv .0) (c .before .loop .inv .1) in omega arith
-
-mul-if1 : tie.Need-mul-if1 Inv-loop μ-loop
-mul-if1 c = record { fits = square (c .before .before .args .n) (c .before .loop .s) (c .before .loop .i) (c .loop-test .taken) (c .before .loop .inv .0) (c .before .loop .inv .1) }
+sub-s : tie.Need-sub-s Inv-loop μ-loop
+sub-s c = omega (arith, down (c .before .before .before .args .n) (c .before .loop .s) (c .loop-test .taken) .0)
 
 loop-less : tie.Need-loop-less Inv-loop μ-loop
-loop-less c = omega arith
+loop-less c = omega (arith, down (c .before .before .before .args .n) (c .before .loop .s) (c .loop-test .taken) .0)
 
 loop-again : tie.Need-loop-again Inv-loop μ-loop
-loop-again c =
-    let l = c .before .before .loop in
-    kept (c .before .before .before .args .n) (l .s) (l .i) (c .before .loop-test .taken) (l .inv .0) (l .inv .1) (l .inv .2) (c .if1 .taken)
-
-loop-less-2 : tie.Need-loop-less-2 Inv-loop μ-loop
-loop-less-2 c = omega arith
-
-loop-again-2 : tie.Need-loop-again-2 Inv-loop μ-loop
-loop-again-2 c =
-    let l = c .before .before .loop in
-    passed (c .before .before .before .args .n) (l .s) (l .i) (c .before .loop-test .taken) (l .inv .0) (l .inv .1) (l .inv .2) (c .if1 .left)
+loop-again c = (omega arith, down (c .before .before .before .args .n) (c .before .loop .s) (c .loop-test .taken) .1)
 
 returns : tie.Need-returns Inv-loop μ-loop
-returns c = root-end (c .before .loop .i) (c .before .before .args .n) (c .before .loop .s) _ (c .loop-test .left) (c .before .loop .inv .2)
+returns c = root-found (c .before .before .before .args .n) (c .before .loop .s) (c .before .before .before .pre) (c .before .loop .inv .1) (c .loop-test .left)
 
 pub integer-root-spec : {M : Type 1} → statement M
 integer-root-spec =
     tie.close
-    (tie.spec Inv-loop μ-loop loop-holds sub-i cast-c shl-c add-c mul-if1 loop-less loop-again loop-less-2 loop-again-2 returns)
+    (tie.spec Inv-loop μ-loop guess-requires div-s add-s loop-holds mul-loop sub-s loop-less loop-again returns)
