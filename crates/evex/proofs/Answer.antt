@@ -18,17 +18,17 @@ abbrev pub numbered : List (Bool × Refusal) → List (Bool × ℕ)
 numbered cs = map (λ c. (c .0, numberOf (c .1))) cs
 
 -- the number of a refusal, or else what follows
-abbrev pub answerOf : ℕ → Decoded → ℕ
-answerOf n (Refused r) = numberOf r
-answerOf n (Fields i) = n
+abbrev pub numberOr : ℕ → Decoded → ℕ
+numberOr n (Refused r) = numberOf r
+numberOr n (Fields i) = n
 
 -- a number for each choice of a test
-picked : (n : ℕ) (t : Bool) (r : Refusal) (d : Decoded) → cond t (numberOf r) (answerOf n d) ≡ answerOf n (cond t (Refused r) d)
+picked : (n : ℕ) (t : Bool) (r : Refusal) (d : Decoded) → cond t (numberOf r) (numberOr n d) ≡ numberOr n (cond t (Refused r) d)
 picked n true r d = refl
 picked n false r d = refl
 
 first-answer : (n : ℕ) (cs : List (Bool × Refusal)) (d : Decoded)
-    → firstOf (numbered cs) (answerOf n d) ≡ answerOf n (firstOf (map (λ c. (c .0, Refused (c .1))) cs) d)
+    → firstOf (numbered cs) (numberOr n d) ≡ numberOr n (firstOf (map (λ c. (c .0, Refused (c .1))) cs) d)
 first-answer n [] d = refl
 first-answer n (c ∷ cs) d = rw (first-answer n cs d) (picked n (c .0) (c .1) (firstOf (map (λ c. (c .0, Refused (c .1))) cs) d))
 
@@ -37,11 +37,11 @@ past-list : (n m : ℕ) (code : List ℕ) → listed (headOf code) ≡ Nothing �
 unfolding refusals notInList
 past-list n m code e = rw e
 
-pub answers : (n : ℕ) (code : List ℕ) → firstOf (numbered (refusals code)) n ≡ answerOf n (decoded code)
+pub answers : (n : ℕ) (code : List ℕ) → firstOf (numbered (refusals code)) n ≡ numberOr n (decoded code)
 unfolding decoded
 answers n code = go (listed (headOf code)) refl ∙ first-answer n (refusals code) (fields (headOf code) code (listed (headOf code)))
   where
     go : (l : Listed) → listed (headOf code) ≡ l
-        → firstOf (numbered (refusals code)) n ≡ firstOf (numbered (refusals code)) (answerOf n (fields (headOf code) code (listed (headOf code))))
+        → firstOf (numbered (refusals code)) n ≡ firstOf (numbered (refusals code)) (numberOr n (fields (headOf code) code (listed (headOf code))))
     go (Found row) e = rw e
     go Nothing e = past-list n _ code e

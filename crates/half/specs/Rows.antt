@@ -1,7 +1,7 @@
 -- 01, Lanes and bytes to try: the starred rows, one table and one statement over it. The machine shows the same table through a step.
 use Prim.Native.Nat.{ℕ}
 use mathlib.Core.Bool.{Bool, true, false}
-use mathlib.Core.List.{List, [], _∷_}
+use mathlib.Core.List.{List, [], _∷_, map}
 use mathlib.Core.Path.{_≡_}
 use lib.Bits.{bitOr}
 use Rattle.half.specs.Round.{IE, DE, ZE, OE, UE, PE, result}
@@ -61,10 +61,6 @@ outcomeOf r = go (r .op)
     go root = halfRoot (r .mode) (r .unmasked) (r .a)
     go fused = halfMultiplyAdd (r .mode) (r .unmasked) (r .a) (r .b) (r .c)
 
-abbrev pub each : (Row → Outcome) → List Row → List Outcome
-each f [] = []
-each f (r ∷ rs) = f r ∷ each f rs
-
 -- Every starred row is what the definitions give; proved in proofs/Rows.antt.
 abbrev pub StarredRows : Type 0
-StarredRows = each outcomeOf starred ≡ each (λ (r : Row). r .gives) starred
+StarredRows = map outcomeOf starred ≡ map (λ (r : Row). r .gives) starred

@@ -2,8 +2,11 @@
 ghost use mathlib.Core.Path.{_≡_};
 ghost use Rattle.half.specs.Numbers.{modeOf, yes, answered};
 ghost use Rattle.half.specs.Operations.{halfAdd, halfSubtract, halfMultiply, halfDivide, halfRoot, halfMultiplyAdd};
+ghost use Rattle.machine.specs.Step.{step};
+ghost use Rattle.step.specs.Stepped.{stateOf, steppedOf};
 use half::Mode;
 use half::Rounded;
+use machine::Answer;
 
 #[no_mangle]
 pub extern "C" fn ridgecrook_add(a: u16, b: u16, mode: u32, underflow_unmasked: u32) -> Rounded
@@ -52,4 +55,19 @@ pub extern "C" fn ridgecrook_fused_multiply_add(
     ensures { λ r. ⌜ r ≡ answered (modeOf mode) (λ (m : Mode). halfMultiplyAdd m (yes «underflow_unmasked») a b c) ⌝ }
 {
     half::numbers::multiply_add(a, b, c, mode, underflow_unmasked)
+}
+
+#[no_mangle]
+pub extern "C" fn ridgecrook_step(
+    vectors: &mut [u8],
+    masks: &mut [u64; 8],
+    general: &[u64; 16],
+    control: &mut u32,
+    pointer: &mut u64,
+    code: &[u8],
+    memory: &[u8],
+) -> Answer
+    ensures { λ r. ⌜ steppedOf r (now (vectors .exit)) (now (masks .exit)) (now (general .entry)) (now (control .exit)) (now (pointer .exit)) ≡ step (now (memory .entry)) (stateOf (now (vectors .entry)) (now (masks .entry)) (now (general .entry)) (now (control .entry)) (now (pointer .entry))) (now (code .entry)) ⌝ }
+{
+    step::step(vectors, masks, general, control, pointer, code, memory)
 }

@@ -1,0 +1,32 @@
+# make           the static library and the command, proved and compiled
+# make demo      the compaction of a small log (examples/compaction.c)
+# make test      the merge gate, .ci/run
+# make bench     speed, side by side with plain Rust
+SHELL := /bin/bash -o pipefail
+LIBRARY := target/staticlib/libridgecrook.a
+SOURCES := crates.txt $(shell find crates -type f)
+export CARGO_TARGET_DIR := $(CURDIR)/target/cargo
+
+.PHONY: all demo test bench clean
+all: $(LIBRARY)
+
+# Only rt's own lines are shown; what a crate's check says in full is in target/log/.
+$(LIBRARY): $(SOURCES)
+	@echo 'Proving the library, crate by crate: a minute or two the first time.'
+	@rt staticlib ridgecrook | grep --line-buffered '^rt:'
+
+demo: target/demo/compaction
+	@$<
+
+target/demo/compaction: examples/compaction.c include/ridgecrook.h $(LIBRARY)
+	@mkdir -p $(@D)
+	@gcc -std=c11 -O2 -Wall -Wextra -Werror -Iinclude $< $(LIBRARY) -o $@
+
+test:
+	@.ci/run
+
+bench: $(LIBRARY)
+	@cd bench && cargo run --offline --release --quiet
+
+clean:
+	rm -rf target

@@ -1,0 +1,121 @@
+-- Demand 1: the statements of specs/Answers.antt. The number is `firstOf` of the one list of conditions, and each of them has a number that is not 0;
+-- what is left is read off the two ways in which a step ends.
+-- Assumes nothing.
+use Prim.Native.Nat.{ℕ, suc, _<_}
+use mathlib.Core.Path.{_≡_, refl, sym}
+use mathlib.Core.Logic.{_≢_}
+use mathlib.Core.Bool.{Bool, true, false, cond}
+use mathlib.Core.List.{List, [], _∷_, _++_}
+use native.Mathlib.Omega.{arith}
+use borrow.Author.Tests.{eqb-true}
+use lib.Bits.{bitOr, or-zero-r}
+use lib.Dec.{eqb, lit≤}
+use lib.ListN.{length}
+use Rattle.evex.specs.Decode.{numberOf, refusals, decoded}
+use Rattle.evex.specs.declared.Instruction.{Instruction}
+use Rattle.evex.specs.declared.Rounding.{Rounding}
+use Rattle.evex.specs.declared.Rounding.the-variants.{Control, Embedded}
+use Rattle.evex.specs.declared.Refusal.{Refusal}
+use Rattle.evex.specs.declared.Refusal.the-variants.{Cut, Unlisted, Reserved, TooLong}
+use Rattle.evex.specs.declared.Decoded.{Decoded}
+use Rattle.evex.specs.declared.Decoded.the-variants.{Fields, Refused}
+use Rattle.evex.proofs.Answer as evex
+use Rattle.machine.specs.State.{State, Stepped}
+use Rattle.machine.specs.Memory.{needsOutside}
+use Rattle.machine.specs.Lanes.{gathered, raisesUnmasked, recorded, controlAfter}
+use Rattle.machine.specs.Step.{ofFields, beforeSeven, conditions, answerOf, refused, stopped, completed, step}
+use Rattle.machine.specs.Answers.{Order, Leaves, Answers}
+use Rattle.machine.proofs.First.{NonZero, none-holds, holds-none, is-first, first-is}
+use Rattle.machine.proofs.Ends.{Way, early, fields, way, step-early, step-decoded}
+use Rattle.machine.proofs.Flags.{raised-below}
+
+-- ---- the order
+
+number-of : (r : Refusal) → numberOf r ≢ 0
+number-of Cut e = omega arith
+number-of Unlisted e = omega arith
+number-of Reserved e = omega arith
+number-of TooLong e = omega arith
+
+non-zero-numbered : (cs : List (Bool × Refusal)) → NonZero (evex.numbered cs)
+non-zero-numbered [] = tt
+non-zero-numbered (c ∷ cs) = (number-of (c .1), non-zero-numbered cs)
+
+non-zero-append : (cs ds : List (Bool × ℕ)) → NonZero cs → NonZero ds → NonZero (cs ++ ds)
+non-zero-append [] ds h k = k
+non-zero-append (c ∷ cs) ds h k = (h .0, non-zero-append cs ds (h .1) k)
+
+module _ (memory : List ℕ) (s : State) (code : List ℕ) where
+  non-zero : NonZero (conditions memory s code)
+  unfolding conditions beforeSeven
+  non-zero =
+      non-zero-append (beforeSeven s code) _ ((λ e. omega arith), ((λ e. omega arith), non-zero-numbered (refusals code)))
+      ((λ e. omega arith), ((λ e. omega arith), tt))
+
+  -- the number that a step returns is that of the conditions
+  number-is : step memory s code .answer .number ≡ answerOf memory s code
+  unfolding step stopped completed
+  number-is = go (answerOf memory s code) (decoded code)
+    where
+      go : (n : ℕ) (d : Decoded)
+          → ofFields d (refused n s) (λ (i : Instruction). cond (eqb n 0) (completed memory s i) (cond (eqb n 8) (stopped memory s i) (refused n s))) .answer .number ≡ n
+      go n (Refused r) = refl
+      go n (Fields i) = picked (eqb n 0) (eqb n 8) refl refl
+        where
+          picked : (z e : Bool) → eqb n 0 ≡ z → eqb n 8 ≡ e
+              → cond z (completed memory s i) (cond e (stopped memory s i) (refused n s)) .answer .number ≡ n
+          picked true e p q = sym (eqb-true n 0 p)
+          picked false true p q = sym (eqb-true n 8 q)
+          picked false false p q = refl
+
+  order : Order memory s code (step memory s code .answer .number)
+  unfolding answerOf
+  order =
+      rw number-is
+      (record {
+        done = (holds-none (conditions memory s code) non-zero, none-holds (conditions memory s code) 0);
+        given = λ k h. (first-is (conditions memory s code) k h, is-first (conditions memory s code) 0 k);
+      })
+
+-- ---- what is left
+
+refused-leaves : (s : State) (n : ℕ) → n ≢ 0 → n ≢ 8 → Leaves s (refused n s)
+refused-leaves s n z h = record { moved = λ e. absurd (z e); before = λ _ _. refl; flagged = λ e. absurd (h e); length = λ _. refl }
+
+-- embedded rounding adds no flag
+recorded-flags : (r : Rounding) (control flags : ℕ) → flags < 64 → (f : ℕ) × (f < 64) × (recorded r control flags ≡ bitOr control f)
+recorded-flags Control control flags h = (flags, h, refl)
+recorded-flags (Embedded mode) control flags h = (0, lit≤ tt, sym (or-zero-r control))
+
+module _ (memory : List ℕ) (s : State) where
+  stopped-leaves : (i : Instruction) → Leaves s (stopped memory s i)
+  unfolding stopped controlAfter
+  stopped-leaves i =
+      let f : (f : ℕ) × (f < 64) × (controlAfter s i (gathered memory s i) ≡ bitOr (s .control) f) = recorded-flags (i .rounding) (s .control) _ (raised-below s i (gathered memory s i)) in
+      record {
+        moved = λ e. absurd (omega arith);
+        before = λ _ h. absurd (h refl);
+        flagged = λ _. (f .0, f .1, λ x. record { vectors = s .vectors; masks = s .masks; general = s .general; control = f .2 x; pointer = s .pointer });
+        length = λ _. refl;
+      }
+
+  completed-leaves : (i : Instruction) → Leaves s (completed memory s i)
+  unfolding completed
+  completed-leaves i = record { moved = λ _. refl; before = λ h _. absurd (h refl); flagged = λ e. absurd (omega arith); length = λ h. absurd (h refl) }
+
+  leaves : (code : List ℕ) → Leaves s (step memory s code)
+  leaves code = go (way s code)
+    where
+      either : (t : Bool) {x y : Stepped} → Leaves s x → Leaves s y → Leaves s (cond t x y)
+      either true h k = h
+      either false h k = k
+
+      go : Way s code → Leaves s (step memory s code)
+      go (early n e h) = rw (step-early memory s code n e h) (refused-leaves s (suc n) (λ z. omega arith) (λ z. omega arith))
+      go (fields i d) =
+          rw (step-decoded memory s code d)
+          (either (needsOutside s i (length memory)) (refused-leaves s 7 (λ z. omega arith) (λ z. omega arith))
+          (either (raisesUnmasked s i (gathered memory s i)) (stopped-leaves i) (completed-leaves i)))
+
+pub answers : Answers
+answers memory s code = (order memory s code, leaves memory s code)

@@ -1,0 +1,156 @@
+-- The ways in which a step ends, a law for each `return` of a code that tests in the order of document 01: what the proof of the step's code cites.
+-- Below them the two ways that the theorems go by: something before 7 refuses, or the instruction is decoded.
+-- Assumes nothing.
+use Prim.Native.Nat.{ℕ, suc, _≤_, _<_, _^_}
+use mathlib.Core.Path.{_≡_, refl, _∙_}
+use mathlib.Core.Bool.{Bool, true, false, cond}
+use mathlib.Core.List.{List}
+use native.Mathlib.Omega.{arith}
+use borrow.Author.Tests.{eq-eqb, ne-eqb, le-leb, lt-leb, eqb-true, leb-false, not-false}
+use lib.Dec.{eqb, lit≤}
+use lib.ListN.{length}
+use Rattle.evex.specs.First.{firstOf}
+use Rattle.evex.specs.Decode.{numberOf, decoded}
+use Rattle.evex.specs.declared.Instruction.{Instruction}
+use Rattle.evex.specs.declared.Refusal.{Refusal}
+use Rattle.evex.specs.declared.Refusal.the-variants.{Cut, Unlisted, Reserved, TooLong}
+use Rattle.evex.specs.declared.Decoded.{Decoded}
+use Rattle.evex.specs.declared.Decoded.the-variants.{Fields, Refused}
+use Rattle.evex.proofs.Answer as evex
+use Rattle.machine.specs.State.{State}
+use Rattle.machine.specs.Memory.{needsOutside}
+use Rattle.machine.specs.Lanes.{gathered, raisesUnmasked}
+use Rattle.machine.specs.Step.{ofFields, wrongVectorFile, highControlBit, outsideMemory, unmaskedException, beforeSeven, conditions, answerOf, refused, stopped, completed, step}
+use Rattle.machine.specs.TwoRuns.{IsDecoded}
+use Rattle.machine.proofs.First.{first-append, first-found}
+
+-- ---- the tests of 1 and 2
+
+right-size : (s : State) → length (s .vectors) ≡ 2048 → wrongVectorFile s ≡ false
+unfolding wrongVectorFile
+right-size s e = rw (eq-eqb (length (s .vectors)) 2048 e)
+
+low-control : (s : State) → s .control < 2 ^ 16 → highControlBit s ≡ false
+unfolding highControlBit
+low-control s h = lt-leb (2 ^ 16) (s .control) h
+
+-- what stands before 7, whatever follows: 1, 2 or the number of what decoding refuses
+before : (s : State) (code : List ℕ) (n : ℕ)
+    → firstOf (beforeSeven s code) n ≡ cond (wrongVectorFile s) 1 (cond (highControlBit s) 2 (evex.numberOr n (decoded code)))
+unfolding beforeSeven
+before s code n = rw (evex.answers n code)
+
+-- ---- a law for each return
+
+module _ (memory : List ℕ) (s : State) (code : List ℕ) where
+  -- what follows: 7, 8 or 0
+  abbrev rest : ℕ
+  rest = cond (outsideMemory memory s (decoded code)) 7 (cond (unmaskedException memory s (decoded code)) 8 0)
+
+  answer : answerOf memory s code ≡ firstOf (beforeSeven s code) rest
+  unfolding answerOf conditions
+  answer = first-append (beforeSeven s code) _ 0
+
+  -- a number other than 0 and 8 leaves all as before
+  refuses : (n : ℕ) → answerOf memory s code ≡ n → eqb n 0 ≡ false → eqb n 8 ≡ false → step memory s code ≡ refused n s
+  unfolding step
+  refuses n e not0 not8 = rw (e, not0, not8) (go (decoded code))
+    where
+      go : (d : Decoded) → ofFields d (refused n s) (λ (i : Instruction). refused n s) ≡ refused n s
+      go (Fields i) = refl
+      go (Refused r) = refl
+
+  pub refuses-size : (length (s .vectors) ≡ 2048 → ⊥) → step memory s code ≡ refused 1 s
+  unfolding wrongVectorFile
+  refuses-size h = refuses 1 (answer ∙ rw (before s code, ne-eqb (length (s .vectors)) 2048 h)) refl refl
+
+  module _ (size : length (s .vectors) ≡ 2048) where
+    pub refuses-control : 2 ^ 16 ≤ s .control → step memory s code ≡ refused 2 s
+    unfolding highControlBit
+    refuses-control h = refuses 2 (answer ∙ rw (before s code, right-size s size, le-leb (2 ^ 16) (s .control) h)) refl refl
+
+    module _ (control : s .control < 2 ^ 16) where
+      -- neither 1 nor 2
+      further : answerOf memory s code ≡ evex.numberOr rest (decoded code)
+      further = answer ∙ rw (before s code, right-size s size, low-control s control)
+
+      pub refuses-decoding : {r : Refusal} → decoded code ≡ Refused r → step memory s code ≡ refused (numberOf r) s
+      unfolding step
+      refuses-decoding e = rw (further, e)
+
+      module _ {i : Instruction} (fields : decoded code ≡ Fields i) where
+        pub refuses-memory : needsOutside s i (length memory) ≡ true → step memory s code ≡ refused 7 s
+        unfolding step outsideMemory
+        refuses-memory o = rw (further, fields, o)
+
+        module _ (inside : needsOutside s i (length memory) ≡ false) where
+          pub stops : raisesUnmasked s i (gathered memory s i) ≡ true → step memory s code ≡ stopped memory s i
+          unfolding step outsideMemory unmaskedException
+          stops t = rw (further, fields, inside, t)
+
+          pub completes : raisesUnmasked s i (gathered memory s i) ≡ false → step memory s code ≡ completed memory s i
+          unfolding step outsideMemory unmaskedException
+          completes t = rw (further, fields, inside, t)
+
+-- ---- the two ways
+
+pub data Way (s : State) (code : List ℕ) : Type 0 where
+  early : (n : ℕ) → firstOf (beforeSeven s code) 0 ≡ suc n → n < 6 → Way s code
+  fields : (i : Instruction) → IsDecoded s code i → Way s code
+
+pub way : (s : State) (code : List ℕ) → Way s code
+way s code = go (wrongVectorFile s) (highControlBit s) (decoded code) refl refl refl
+  where
+    refusal : (r : Refusal) → firstOf (beforeSeven s code) 0 ≡ numberOf r → Way s code
+    refusal Cut e = early 2 e (lit≤ tt)
+    refusal Unlisted e = early 3 e (lit≤ tt)
+    refusal Reserved e = early 4 e (lit≤ tt)
+    refusal TooLong e = early 5 e (lit≤ tt)
+
+    go : (v c : Bool) (d : Decoded) → wrongVectorFile s ≡ v → highControlBit s ≡ c → decoded code ≡ d → Way s code
+    go true c d e f g = early 0 (rw (before s code, e)) (lit≤ tt)
+    go false true d e f g = early 1 (rw (before s code, e, f)) (lit≤ tt)
+    go false false (Refused r) e f g = refusal r (rw (before s code, e, f, g))
+    go false false (Fields i) e f g = fields i (rw (before s code, e, f, g), g)
+
+-- of what is decoded neither 1 nor 2 is given
+passes-tests : (s : State) (code : List ℕ) → firstOf (beforeSeven s code) 0 ≡ 0 → (wrongVectorFile s ≡ false) × (highControlBit s ≡ false)
+passes-tests s code e = go (wrongVectorFile s) (highControlBit s) (rw (before s code) at e)
+  where
+    go : (v c : Bool) → cond v 1 (cond c 2 (evex.numberOr 0 (decoded code))) ≡ 0 → (v ≡ false) × (c ≡ false)
+    go true c e = absurd (omega arith)
+    go false true e = absurd (omega arith)
+    go false false e = (refl, refl)
+
+pub decoded-size : (s : State) (code : List ℕ) → firstOf (beforeSeven s code) 0 ≡ 0 → length (s .vectors) ≡ 2048
+unfolding wrongVectorFile
+decoded-size s code e = eqb-true (length (s .vectors)) 2048 (not-false _ (passes-tests s code e .0))
+
+pub decoded-control : (s : State) (code : List ℕ) → firstOf (beforeSeven s code) 0 ≡ 0 → s .control < 2 ^ 16
+unfolding highControlBit
+decoded-control s code e = leb-false (2 ^ 16) (s .control) (passes-tests s code e .1)
+
+module _ (memory : List ℕ) (s : State) (code : List ℕ) where
+  pub step-early : (n : ℕ) → firstOf (beforeSeven s code) 0 ≡ suc n → n < 6 → step memory s code ≡ refused (suc n) s
+  step-early n e h =
+      refuses memory s code (suc n) (answer memory s code ∙ first-found (beforeSeven s code) n _ e)
+      (ne-eqb (suc n) 0 (λ z. omega arith)) (ne-eqb (suc n) 8 (λ z. omega arith))
+
+  pub step-decoded : {i : Instruction} → IsDecoded s code i
+      → step memory s code
+      ≡ cond (needsOutside s i (length memory)) (refused 7 s)
+      (cond (raisesUnmasked s i (gathered memory s i)) (stopped memory s i)
+      (completed memory s i))
+  step-decoded {i} d = go (needsOutside s i (length memory)) (raisesUnmasked s i (gathered memory s i)) refl refl
+    where
+      size : length (s .vectors) ≡ 2048
+      size = decoded-size s code (d .0)
+
+      control : s .control < 2 ^ 16
+      control = decoded-control s code (d .0)
+
+      go : (o t : Bool) → needsOutside s i (length memory) ≡ o → raisesUnmasked s i (gathered memory s i) ≡ t
+          → step memory s code ≡ cond o (refused 7 s) (cond t (stopped memory s i) (completed memory s i))
+      go true t e f = refuses-memory memory s code size control (d .1) e
+      go false true e f = stops memory s code size control (d .1) e f
+      go false false e f = completes memory s code size control (d .1) e f

@@ -1,0 +1,98 @@
+-- The flags that an operation raises are the bits 0 to 5, so that they are below 64.
+-- Assumes nothing.
+use Prim.Native.Nat.{ℕ, _<_}
+use mathlib.Core.Bool.{Bool, true, false, cond, _&&_, _||_}
+use mathlib.Core.List.{List}
+use lib.Bits.{or-lt}
+use lib.Dec.{lit≤}
+use Rattle.half.specs.Format.{isNan, isSignalling, isSubnormal}
+use Rattle.half.specs.Exact.{Magnitude}
+use Rattle.half.specs.Round.{IE, DE, ZE, UE, PE, flag, result, tiny, inexact, overflows, roundedHalf}
+use Rattle.half.specs.Numbers.{modeOf, yes, answered}
+use Rattle.half.specs.Operations.{some, invalid, exactly, nanResult, exactSum, withDenormals, unlessNan, halfAdd, halfSubtract, halfMultiply, halfDivide, halfRoot, halfMultiplyAdd}
+use Rattle.half.specs.declared.Mode.{Mode}
+use Rattle.half.specs.declared.ModeNumber.{ModeNumber}
+use Rattle.half.specs.declared.ModeNumber.the-variants.{Means, Above}
+use Rattle.half.specs.declared.Outcome.{Outcome}
+use Rattle.evex.specs.declared.Operation.{Operation}
+use Rattle.evex.specs.declared.Operation.the-variants.{Add, Multiply, Subtract, Divide, SquareRoot, Fused132, Fused213, Fused231}
+use Rattle.machine.specs.State.{State}
+use Rattle.machine.specs.Lanes.{Sources, laneOutcome, laneResult, raised}
+use Rattle.evex.specs.declared.Instruction.{Instruction}
+use Rattle.machine.proofs.Tables.{or-table-below}
+
+pub record Six (o : Outcome) : Type 0 where
+  pub six : o .flags < 64
+
+-- what holds of both holds of the one that a test picks
+either : (t : Bool) (x y : Outcome) → Six x → Six y → Six (cond t x y)
+either true x y p q = p
+either false x y p q = q
+
+-- a flag below 64, raised or not
+raised-six : (f : ℕ) (t : Bool) → f < 64 → flag f t < 64
+raised-six f true h = h
+raised-six f false h = lit≤ tt
+
+plain : {h f : ℕ} → f < 64 → Six (result h f)
+plain h = record { six = h }
+
+-- ---- the pieces of the operations
+
+nan-six : (hs : List ℕ) {o : Outcome} → Six o → Six (unlessNan hs o)
+nan-six hs h = either (some isNan hs) (nanResult hs) _ (plain (raised-six IE (some isSignalling hs) (lit≤ tt))) h
+
+invalid-six : Six invalid
+invalid-six = plain (lit≤ tt)
+
+zero-divide-six : (h : ℕ) → Six (result h ZE)
+zero-divide-six h = plain (lit≤ tt)
+
+denormals-six : (hs : List ℕ) {o : Outcome} → Six o → Six (withDenormals hs o)
+denormals-six hs {o} h = plain (or-lt 6 (flag DE (some isSubnormal hs)) (o .flags) (raised-six DE (some isSubnormal hs) (lit≤ tt)) (h .six))
+
+exactly-six : (h : ℕ) → Six (exactly h)
+exactly-six h = plain (lit≤ tt)
+
+rounded-six : (m : Mode) (u neg : Bool) (x : Magnitude) → Six (roundedHalf m u neg x)
+unfolding roundedHalf
+rounded-six m u neg x =
+    either (overflows m neg x) _ _ (plain (lit≤ tt))
+    (plain (or-lt 6 _ _ (raised-six PE (inexact m neg x) (lit≤ tt)) (raised-six UE (tiny m neg x && (u || inexact m neg x)) (lit≤ tt))))
+
+sum-six : (m : Mode) (u sx : Bool) (x : ℕ) (sy : Bool) (y d : ℕ) → Six (exactSum m u sx x sy y d)
+unfolding exactSum
+sum-six m u sx x sy y d = search (either, rounded-six, exactly-six)
+
+ruleset pieces = (nan-six, invalid-six, zero-divide-six, denormals-six, exactly-six, rounded-six, sum-six, either)
+
+-- ---- the operations, a lane, all lanes
+
+lane-six : (op : Operation) (m : Mode) (u : Bool) (d f x : ℕ) → Six (laneOutcome op m u d f x)
+unfolding halfAdd halfSubtract halfMultiply halfDivide halfRoot halfMultiplyAdd
+lane-six Add m u d f x = search pieces depth 10
+lane-six Multiply m u d f x = search pieces depth 10
+lane-six Subtract m u d f x = search pieces depth 10
+lane-six Divide m u d f x = search pieces depth 10
+lane-six SquareRoot m u d f x = search pieces depth 10
+lane-six Fused132 m u d f x = search pieces depth 10
+lane-six Fused213 m u d f x = search pieces depth 10
+lane-six Fused231 m u d f x = search pieces depth 10
+
+-- no flags with a mode above 3
+answered-six : (n : ModeNumber) (f : Mode → Outcome) → ((m : Mode) → Six (f m)) → answered n f .flags < 64
+unfolding answered
+answered-six (Means m) f h = h m .six
+answered-six Above f h = lit≤ tt
+
+result-six : (op : Operation) (mode underflow d f x : ℕ) → laneResult op mode underflow d f x .flags < 64
+unfolding laneResult
+result-six op mode underflow d f x = answered-six (modeOf mode) _ (λ m. lane-six op m (yes underflow) d f x)
+
+either-below : (t : Bool) (n m : ℕ) → n < 64 → m < 64 → cond t n m < 64
+either-below true n m h k = h
+either-below false n m h k = k
+
+pub raised-below : (s : State) (i : Instruction) (g : Sources) → raised s i g < 64
+unfolding raised
+raised-below s i g = or-table-below 6 32 _ (λ j. search (result-six, either-below, lit≤))

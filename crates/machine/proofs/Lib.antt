@@ -1,0 +1,10 @@
+pub mod Tables
+pub mod First
+pub mod Ends
+pub mod Flags
+pub mod Answers
+pub mod Agree
+pub mod TwoRuns
+pub mod OffLanes
+pub mod Rows
+pub mod Theorems

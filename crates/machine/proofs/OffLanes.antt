@@ -1,0 +1,86 @@
+-- The conditions of 7 and 8, as specs/OffLanes.antt has them: a search of all lanes finds one that is on, and one that is on is among those searched,
+-- since an instruction has at most 32.
+-- Assumes nothing.
+use Prim.Native.Nat.{ℕ, _≤_, _<_}
+use mathlib.Core.Path.{_≡_, refl, sym, _∙_}
+use mathlib.Core.Logic.{_≢_}
+use mathlib.Core.Bool.{Bool, true, false, cond, _&&_, and-eq-true-iff, false≢true}
+use mathlib.Core.List.{List, List·Memᴰ}
+use native.Mathlib.Omega.{arith}
+use borrow.Author.Tests.{ltb-true, le-leb, leb-true, ne-eqb, eqb-false, not-true}
+use lib.Bits.{bitAnd}
+use lib.Dec.{leb}
+use Rattle.evex.specs.Decode.{decoded}
+use Rattle.evex.specs.declared.Instruction.{Instruction}
+use Rattle.evex.specs.declared.Decoded.the-variants.{Fields}
+use Rattle.evex.proofs.Bounds.{bounds}
+use Rattle.half.specs.Operations.{some}
+use Rattle.machine.specs.Lists.{table}
+use Rattle.machine.specs.State.{State}
+use Rattle.machine.specs.Memory.{on, bytesRead, needsOutside}
+use Rattle.machine.specs.Lanes.{Sources, unmasked, laneOf, raised, raisesUnmasked}
+use Rattle.machine.specs.TwoRuns.{Needs}
+use Rattle.machine.specs.OffLanes.{Faults, Raises, OffLanes}
+use Rattle.machine.proofs.Tables.{some-has, some-member, table-member, member-table, meets, or-meets}
+
+module _ (s : State) (code : List ℕ) (i : Instruction) (fields : decoded code ≡ Fields i) where
+  on-below : (j : ℕ) → on s i j ≡ true → j < 32
+  unfolding on
+  on-below j h = omega (arith, ltb-true j (i .lanes) (and-eq-true-iff _ _ .0 h .0), bounds code fields .lanes)
+
+  module _ (n : ℕ) where
+    abbrev reads : ℕ → Bool
+    reads j = on s i j && some (λ a. leb n a) (bytesRead s i (i .second) j)
+
+    found : needsOutside s i n ≡ true → (a : ℕ) × Needs s i a × (n ≤ a)
+    unfolding needsOutside
+    found e =
+        let l : (j : ℕ) × List·Memᴰ j (table 32 (λ j. j)) × (reads j ≡ true) = some-member reads _ e in
+        let b : (on s i (l .0) ≡ true) × (some (λ a. leb n a) (bytesRead s i (i .second) (l .0)) ≡ true) = and-eq-true-iff _ _ .0 (l .2) in
+        let k : (a : ℕ) × List·Memᴰ a (bytesRead s i (i .second) (l .0)) × (leb n a ≡ true) = some-member (λ a. leb n a) _ (b .1) in
+        (k .0, (l .0, b .0, k .1), leb-true n (k .0) (k .2))
+
+    finds : (a : ℕ) × Needs s i a × (n ≤ a) → needsOutside s i n ≡ true
+    unfolding needsOutside
+    finds k =
+        let j : ℕ = k .1 .0 in
+        some-has reads (table 32 (λ j. j)) (table-member 32 (λ j. j) j (on-below j (k .1 .1)))
+        (and-eq-true-iff _ _ .1 (k .1 .1, some-has (λ a. leb n a) _ (k .1 .2) (le-leb n (k .0) (k .2))))
+
+  faults : Faults s i
+  faults n = (found n, finds n)
+
+  module _ (g : Sources) where
+    abbrev mask : ℕ
+    mask = unmasked (i .rounding) (s .control)
+
+    abbrev flags : ℕ → ℕ
+    flags j = cond (on s i j) (laneOf s i g j .flags) 0
+
+    any : raisesUnmasked s i g ≡ some (meets mask) (table 32 flags)
+    unfolding raisesUnmasked raised
+    any = or-meets mask (table 32 flags)
+
+    raising : raisesUnmasked s i g ≡ true → (j : ℕ) × (on s i j ≡ true) × (bitAnd (laneOf s i g j .flags) mask ≢ 0)
+    raising e =
+        let l : (x : ℕ) × List·Memᴰ x (table 32 flags) × (meets mask x ≡ true) = some-member (meets mask) _ (sym any ∙ e) in
+        let k : (j : ℕ) × (j < 32) × (l .0 ≡ flags j) = member-table 32 flags (l .1) in
+        let r : (on s i (k .0) ≡ true) × (bitAnd (laneOf s i g (k .0) .flags) mask ≢ 0) = go (k .0) (on s i (k .0)) refl (rw (k .2) at (l .2)) in
+        (k .0, r .0, r .1)
+      where
+        go : (j : ℕ) (t : Bool) → on s i j ≡ t → meets mask (cond t (laneOf s i g j .flags) 0) ≡ true
+            → (on s i j ≡ true) × (bitAnd (laneOf s i g j .flags) mask ≢ 0)
+        go j true e h = (e, eqb-false (bitAnd (laneOf s i g j .flags) mask) 0 (not-true _ h))
+        go j false e h = absurd (false≢true h)
+
+    raised-by : (j : ℕ) × (on s i j ≡ true) × (bitAnd (laneOf s i g j .flags) mask ≢ 0) → raisesUnmasked s i g ≡ true
+    raised-by k =
+        any
+        ∙ some-has (meets mask) (table 32 flags) (table-member 32 flags (k .0) (on-below (k .0) (k .1)))
+        (rw (k .1, ne-eqb (bitAnd (laneOf s i g (k .0) .flags) mask) 0 (k .2)))
+
+  raises : Raises s i
+  raises g = (raising g, raised-by g)
+
+pub off-lanes : OffLanes
+off-lanes s code i fields = (faults s code i fields, raises s code i fields)

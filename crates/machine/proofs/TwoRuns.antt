@@ -1,0 +1,208 @@
+-- Demand 3: the two-run theorem of specs/TwoRuns.antt.
+--
+-- A step looks at the vector file and the memory in three ways: at their lengths; through `gathered`, only at lanes that are on and at bytes
+-- that these need (`gathered-equal`); and at the destination's own bytes, each of which is kept at its place (`written-alike`). Everything else
+-- is computed from the registers, the bytes and what was gathered, which are equal in both runs (`.. same`).
+-- Assumes nothing.
+use Prim.Native.Nat.{ℕ, suc, _+_, _≤_, _<_}
+use mathlib.Core.Path.{_≡_, refl, sym, ap, _∙_, subst}
+use mathlib.Core.Bool.{Bool, true, false, cond}
+use mathlib.Core.List.{List, [], _∷_}
+use native.Mathlib.Omega.{arith}
+use lib.ListN.{length, getD, take, drop}
+use Rattle.evex.specs.declared.Source.{Source}
+use Rattle.evex.specs.declared.Source.the-variants as source
+use Rattle.evex.specs.declared.Operand.{Operand}
+use Rattle.evex.specs.declared.Operand.the-variants as operand
+use Rattle.evex.specs.declared.Instruction.{Instruction}
+use Rattle.evex.proofs.Bounds.{bounds}
+use Rattle.machine.specs.State.{State, registerAt, lanePlaces}
+use Rattle.machine.specs.Memory.{on, addressOf, wordAddress, bytesRead, needsOutside}
+use Rattle.machine.specs.Lanes.{Sources, registerHalves, firstHalves, secondHalves, gathered, results, raised, raisesUnmasked, controlAfter, newByte, newRegister, vectorsAfter}
+use Rattle.machine.specs.Step.{wrongVectorFile, highControlBit, beforeSeven, refused, stopped, completed, step, run}
+use Rattle.machine.specs.TwoRuns.{EqualOpen, laneNumber, Alike, AlikeAfter, AlikeThroughout, Spares, SparesThroughout, TwoRuns}
+use Rattle.machine.proofs.Tables.{table-equal, length-table, getD-table, part-at}
+use Rattle.machine.proofs.Agree.{Each, each-of, equal-at, numbers-equal, paste-equal}
+use Rattle.machine.proofs.Ends.{Way, early, fields, way, decoded-size, step-early, step-decoded}
+
+-- ---- tests
+
+-- two choices by one test agree where what is chosen does
+cond-equal : {A : Type 0} {x y : A} (z : A) (t : Bool) → (t ≡ true → x ≡ y) → cond t x z ≡ cond t y z
+cond-equal z true h = h refl
+cond-equal z false h = refl
+
+-- two choices by one test are related where what is chosen is
+cond-related : {A : Type 0} (R : A → A → Type 0) {a b c d : A} (t : Bool) → R a b → R c d → R (cond t a c) (cond t b d)
+cond-related R true h k = h
+cond-related R false h k = k
+
+-- ---- what looks at the registers alone
+
+-- the state with another vector file
+abbrev withVectors : State → List ℕ → State
+withVectors s v = record { vectors = v; masks = s .masks; general = s .general; control = s .control; pointer = s .pointer }
+
+module _ (s : State) (v : List ℕ) where
+  before-same : (code : List ℕ) → length (s .vectors) ≡ length v → beforeSeven (withVectors s v) code ≡ beforeSeven s code
+  unfolding beforeSeven wrongVectorFile highControlBit
+  before-same code e = rw e
+
+  module _ (i : Instruction) where
+    outside-same : (n : ℕ) → needsOutside (withVectors s v) i n ≡ needsOutside s i n
+    unfolding needsOutside on bytesRead wordAddress addressOf
+    outside-same n = refl
+
+    raises-same : (g : Sources) → raisesUnmasked (withVectors s v) i g ≡ raisesUnmasked s i g
+    unfolding raisesUnmasked raised on
+    raises-same g = refl
+
+    control-same : (g : Sources) → controlAfter (withVectors s v) i g ≡ controlAfter s i g
+    unfolding controlAfter raised on
+    control-same g = refl
+
+    results-same : (g : Sources) → results (withVectors s v) i g ≡ results s i g
+    unfolding results on
+    results-same g = refl
+
+module _ (HiddenLane HiddenByte : ℕ → Type 0) where
+  abbrev HiddenPlace : ℕ → Type 0
+  HiddenPlace p = HiddenLane (laneNumber p)
+
+  -- an open lane's bytes are open, in any register
+  lane-open : (n j : ℕ) → j < 32 → ¬ HiddenLane j → Each (λ p. ¬ HiddenPlace p) (lanePlaces n j)
+  lane-open n j h o =
+      (subst (λ (x : ℕ). ¬ HiddenLane x) (omega arith) o, (subst (λ (x : ℕ). ¬ HiddenLane x) (omega arith) o, tt))
+
+  module _ (s : State) {v : List ℕ} (files : EqualOpen HiddenPlace (s .vectors) v) (i : Instruction) where
+    -- ---- what is read
+
+    module _ {memory₁ memory₂ : List ℕ} (memories : EqualOpen HiddenByte memory₁ memory₂) (lanes : (j : ℕ) → on s i j ≡ true → ¬ HiddenLane j) where
+      registers-equal : (n : ℕ) → registerHalves s i n ≡ registerHalves (withVectors s v) i n
+      unfolding registerHalves on
+      registers-equal n =
+          table-equal 32 (λ j k. cond-equal 0 (on s i j) (λ t. numbers-equal files (lanePlaces n j) (lane-open n j k (lanes j t))))
+
+      first-equal : (x : Source) → firstHalves s i x ≡ firstHalves (withVectors s v) i x
+      first-equal source.None = refl
+      first-equal (source.Register n) = registers-equal n
+
+      second-equal : (x : Operand) → ((j : ℕ) → on s i j ≡ true → Each (λ a. ¬ HiddenByte a) (bytesRead s i x j))
+          → secondHalves memory₁ s i x ≡ secondHalves memory₂ (withVectors s v) i x
+      unfolding on bytesRead wordAddress addressOf
+      second-equal (operand.Register n) bytes = registers-equal n
+      second-equal (operand.Memory a broadcast) bytes =
+          table-equal 32 (λ j k. cond-equal 0 (on s i j) (λ t. numbers-equal memories (bytesRead s i (operand.Memory a broadcast) j) (bytes j t)))
+
+      gathered-equal : ((j : ℕ) → on s i j ≡ true → Each (λ a. ¬ HiddenByte a) (bytesRead s i (i .second) j))
+          → gathered memory₁ s i ≡ gathered memory₂ (withVectors s v) i
+      unfolding gathered
+      gathered-equal bytes = λ x.
+          record {
+            destination = registers-equal (i .destination) x;
+            first = first-equal (i .first) x;
+            second = second-equal (i .second) bytes x;
+          }
+
+    -- ---- what is written
+
+    module _ (halves : List ℕ) where
+      -- the destination's bytes in a state
+      abbrev old : State → List ℕ
+      old t = take 64 (drop (registerAt (i .destination)) (t .vectors))
+
+      new-length : (t : State) → length (newRegister t i halves (old t)) ≡ 64
+      unfolding newRegister
+      new-length t = length-table 64 _
+
+      -- each anew, from the one at its place
+      new-byte : (t : State) (k : ℕ) → k < 64
+          → getD (newRegister t i halves (old t)) k 0 ≡ newByte t i halves k (getD (t .vectors) (registerAt (i .destination) + k) 0)
+      unfolding newRegister
+      new-byte t k h =
+          getD-table 64 _ k 0 h
+          ∙ ap (newByte t i halves k)
+          (part-at (t .vectors) (registerAt (i .destination)) 64 k 0 h)
+
+      written-alike : registerAt (i .destination) + 64 ≤ length (s .vectors)
+          → EqualOpen HiddenPlace (vectorsAfter s i halves) (vectorsAfter (withVectors s v) i halves)
+      unfolding vectorsAfter on
+      written-alike fits =
+          paste-equal (registerAt (i .destination)) 64 (newRegister s i halves (old s)) (newRegister (withVectors s v) i halves (old (withVectors s v)))
+          files fits (new-length s) (new-length (withVectors s v))
+          (λ k h o. new-byte s k h
+          ∙ ap (newByte s i halves k) (equal-at files (registerAt (i .destination) + k) o)
+          ∙ sym (new-byte (withVectors s v) k h))
+
+  -- ---- a step
+
+  -- nothing but the hidden lanes differs, as before
+  left-alike : (s : State) {v : List ℕ} → EqualOpen HiddenPlace (s .vectors) v → Alike HiddenLane s (withVectors s v)
+  left-alike s files = record { vectors = files; masks = refl; general = refl; control = refl; pointer = refl }
+
+  refused-alike : (n : ℕ) (s : State) {v : List ℕ} → EqualOpen HiddenPlace (s .vectors) v → AlikeAfter HiddenLane (refused n s) (refused n (withVectors s v))
+  refused-alike n s files = record { answers = refl; states = left-alike s files }
+
+  module _ {memory₁ memory₂ : List ℕ} (memories : EqualOpen HiddenByte memory₁ memory₂) where
+    module _ (s : State) {v : List ℕ} (files : EqualOpen HiddenPlace (s .vectors) v) (i : Instruction)
+        (g : gathered memory₁ s i ≡ gathered memory₂ (withVectors s v) i) where
+      stopped-alike : AlikeAfter HiddenLane (stopped memory₁ s i) (stopped memory₂ (withVectors s v) i)
+      unfolding stopped
+      stopped-alike =
+          rw (← g, control-same s v i)
+          (record { answers = refl; states = record { vectors = files; masks = refl; general = refl; control = refl; pointer = refl } })
+
+      completed-alike : registerAt (i .destination) + 64 ≤ length (s .vectors)
+          → AlikeAfter HiddenLane (completed memory₁ s i) (completed memory₂ (withVectors s v) i)
+      unfolding completed
+      completed-alike fits =
+          rw (← g, control-same s v i, results-same s v i)
+          (record {
+            answers = refl;
+            states =
+                record {
+                  vectors = written-alike s files i (results s i (gathered memory₁ s i)) fits;
+                  masks = refl;
+                  general = refl;
+                  control = refl;
+                  pointer = refl;
+                };
+          })
+
+    same-step : (s : State) {v : List ℕ} (code : List ℕ) → EqualOpen HiddenPlace (s .vectors) v → Spares HiddenLane HiddenByte s code
+        → AlikeAfter HiddenLane (step memory₁ s code) (step memory₂ (withVectors s v) code)
+    same-step s {v} code files spares = go (way s code)
+      where
+        go : Way s code → AlikeAfter HiddenLane (step memory₁ s code) (step memory₂ (withVectors s v) code)
+        go (early n e h) =
+            rw (step-early memory₁ s code n e h, step-early memory₂ (withVectors s v) code n (rw (before-same s v code (files .lengths)) e) h)
+            (refused-alike (suc n) s files)
+        go (fields i d) =
+            let g : gathered memory₁ s i ≡ gathered memory₂ (withVectors s v) i =
+            gathered-equal s files i memories (spares .lanes i d) (λ j t. each-of _ (λ a m. spares .bytes i d a (j, t, m))) in
+            rw (step-decoded memory₁ s code d, step-decoded memory₂ (withVectors s v) code {i = i} (rw (before-same s v code (files .lengths)) d))
+            (rw (outside-same s v i, raises-same s v i, ← g, ← memories .lengths)
+            (cond-related (AlikeAfter HiddenLane) (needsOutside s i (length memory₁)) (refused-alike 7 s files)
+            (cond-related (AlikeAfter HiddenLane) (raisesUnmasked s i (gathered memory₁ s i)) (stopped-alike s files i g)
+            (completed-alike s files i g (omega (arith, bounds code (d .1) .destination, decoded-size s code (d .0)))))))
+
+    step-alike : (s₁ s₂ : State) (code : List ℕ) → Alike HiddenLane s₁ s₂ → Spares HiddenLane HiddenByte s₁ code
+        → AlikeAfter HiddenLane (step memory₁ s₁ code) (step memory₂ s₂ code)
+    step-alike s₁ s₂ code a spares = subst (λ (t : State). AlikeAfter HiddenLane (step memory₁ s₁ code) (step memory₂ t code)) same (same-step s₁ code (a .vectors) spares)
+      where
+        same : withVectors s₁ (s₂ .vectors) ≡ s₂
+        same = λ x. record { vectors = s₂ .vectors; masks = a .masks x; general = a .general x; control = a .control x; pointer = a .pointer x }
+
+    -- ---- a run
+
+    runs-alike : (s₁ s₂ : State) (codes : List (List ℕ)) → Alike HiddenLane s₁ s₂ → SparesThroughout HiddenLane HiddenByte memory₁ s₁ codes
+        → AlikeThroughout HiddenLane (run memory₁ s₁ codes) (run memory₂ s₂ codes)
+    unfolding run
+    runs-alike s₁ s₂ [] a spares = tt
+    runs-alike s₁ s₂ (code ∷ codes) a spares =
+        let o : AlikeAfter HiddenLane (step memory₁ s₁ code) (step memory₂ s₂ code) = step-alike s₁ s₂ code a (spares .0) in
+        (o, runs-alike _ _ codes (o .states) (spares .1))
+
+pub two-runs : TwoRuns
+two-runs HiddenLane HiddenByte memory₁ memory₂ start₁ start₂ sequence memories starts spares =
+    runs-alike HiddenLane HiddenByte memories start₁ start₂ sequence starts spares

@@ -1,0 +1,56 @@
+-- Document 01, 'Numbers the engine gets back': which answer is given, and what it leaves. The statements; their proofs are in
+-- proofs/Answers.antt.
+use Prim.Native.Nat.{ℕ, _+_, _%_, _^_, _<_}
+use mathlib.Core.Path.{_≡_}
+use mathlib.Core.Logic.{_↔_, _≢_}
+use mathlib.Core.Bool.{Bool, true, false}
+use mathlib.Core.List.{List, [], _∷_, _++_}
+use lib.Bits.{bitOr}
+use Rattle.machine.specs.State.{State, Stepped}
+use Rattle.machine.specs.Step.{conditions, step}
+
+-- no condition holds
+abbrev pub NoneHolds : List (Bool × ℕ) → Type 0
+NoneHolds [] = Unit {0}
+NoneHolds (c ∷ cs) = (c .0 ≡ false) × NoneHolds cs
+
+-- n stands beside a condition that holds, and none before it does
+pub record IsFirst (cs : List (Bool × ℕ)) (n : ℕ) : Type 0 where
+  pub earlier : List (Bool × ℕ)
+  pub later : List (Bool × ℕ)
+  pub order : cs ≡ earlier ++ ((true, n) ∷ later)
+  pub none : NoneHolds earlier
+
+-- Demand 1, for the number n of a step. `conditions` has document 01's order, from 1 to 8.
+pub record Order (memory : List ℕ) (s : State) (code : List ℕ) (n : ℕ) : Type 0 where
+  -- 0 is given exactly when no condition holds
+  pub done : (n ≡ 0) ↔ NoneHolds (conditions memory s code)
+  -- any other number exactly when its condition holds and no earlier one does
+  pub given : (k : ℕ) → k ≢ 0 → (n ≡ k) ↔ IsFirst (conditions memory s code) k
+
+-- What a step leaves that was given the state s: the table's last column. (The new vector file is in Lanes.antt.)
+pub record Leaves (s : State) (o : Stepped) : Type 0 where
+  -- 0: "a step moves the pointer by the length, modulo 2 to the 64"
+  pub moved : o .answer .number ≡ 0 → o .state .pointer ≡ (s .pointer + o .answer .length) % 2 ^ 64
+  -- 1 to 7: "all as before"
+  pub before : o .answer .number ≢ 0 → o .answer .number ≢ 8 → o .state ≡ s
+  -- 8: "only flags added to the control word"; flags are its bits 0 to 5
+  pub flagged : o .answer .number ≡ 8
+      → (flags : ℕ)
+      × (flags < 64)
+      × (o .state
+      ≡ record {
+        vectors = s .vectors;
+        masks = s .masks;
+        general = s .general;
+        control = bitOr (s .control) flags;
+        pointer = s .pointer;
+      })
+  -- "the length is 0 unless the number is 0"
+  pub length : o .answer .number ≢ 0 → o .answer .length ≡ 0
+
+-- Of every step.
+abbrev pub Answers : Type 0
+Answers =
+    (memory : List ℕ) (s : State) (code : List ℕ)
+    → Order memory s code (step memory s code .answer .number) × Leaves s (step memory s code)

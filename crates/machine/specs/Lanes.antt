@@ -1,0 +1,131 @@
+-- What a decoded instruction computes: sources, lanes, flags, the destination's new bytes.
+use Prim.Native.Nat.{ℕ, _+_, _*_, _/_, _%_, _^_}
+use mathlib.Core.Bool.{Bool, cond, not, _&&_}
+use mathlib.Core.List.{List}
+use lib.Bits.{bitAnd, bitOr}
+use lib.Dec.{eqb, ltb}
+use lib.ListN.{getD, take, drop}
+use lib.Seq.{paste}
+use Rattle.half.specs.Numbers.{modeOf, yes, answered}
+use Rattle.half.specs.Operations.{halfAdd, halfSubtract, halfMultiply, halfDivide, halfRoot, halfMultiplyAdd}
+use Rattle.half.specs.declared.Mode.{Mode}
+use Rattle.half.specs.declared.Outcome.{Outcome}
+use Rattle.half.specs.declared.Rounded.{Rounded}
+use Rattle.evex.specs.Bits.{bits}
+use Rattle.evex.specs.declared.Operation.{Operation}
+use Rattle.evex.specs.declared.Operation.the-variants.{Add, Multiply, Subtract, Divide, SquareRoot, Fused132, Fused213, Fused231}
+use Rattle.evex.specs.declared.Rounding.{Rounding}
+use Rattle.evex.specs.declared.Rounding.the-variants.{Control, Embedded}
+use Rattle.evex.specs.declared.Source.{Source}
+use Rattle.evex.specs.declared.Source.the-variants as source
+use Rattle.evex.specs.declared.Operand.{Operand}
+use Rattle.evex.specs.declared.Operand.the-variants as operand
+use Rattle.evex.specs.declared.Instruction.{Instruction}
+use Rattle.machine.specs.Lists.{table, orAll}
+use Rattle.machine.specs.State.{State, numberAt, registerAt, lanePlaces, unmaskedFlags, modeNumber}
+use Rattle.machine.specs.Memory.{on, bytesRead}
+
+-- ---- 01, Fields of an instruction: "In register form with b set .. the length bits are the rounding mode, all six exceptions count
+-- as masked and no flag is recorded."
+
+abbrev pub roundingMode : Rounding → ℕ → ℕ
+roundingMode Control control = modeNumber control
+roundingMode (Embedded mode) control = mode
+
+abbrev pub unmasked : Rounding → ℕ → ℕ
+unmasked Control control = unmaskedFlags control
+unmasked (Embedded mode) control = 0
+
+-- not 0 where UE, bit 4, is unmasked
+abbrev pub underflowUnmasked : Rounding → ℕ → ℕ
+underflowUnmasked rounding control = bits (unmasked rounding control) 4 1
+
+abbrev pub recorded : Rounding → ℕ → ℕ → ℕ
+recorded Control control flags = bitOr control flags
+recorded (Embedded mode) control flags = control
+
+-- ---- sources: "All sources are read before the destination is written." "Lanes that are off read nothing": they count as 0.
+
+pub record Sources : Type 0 where
+  pub destination : List ℕ
+  pub first : List ℕ
+  pub second : List ℕ
+
+module _ (s : State) (i : Instruction) where
+  -- 32 halves, lane j's by f where it is on
+  abbrev pub lanesOn : (ℕ → ℕ) → List ℕ
+  lanesOn f = table 32 (λ j. cond (on s i j) (f j) 0)
+
+  unfoldable pub registerHalves : ℕ → List ℕ
+  registerHalves n = lanesOn (λ j. numberAt (s .vectors) (lanePlaces n j))
+
+  abbrev pub firstHalves : Source → List ℕ
+  firstHalves source.None = table 32 (λ j. 0)
+  firstHalves (source.Register n) = registerHalves n
+
+module _ (memory : List ℕ) (s : State) (i : Instruction) where
+  abbrev pub secondHalves : Operand → List ℕ
+  secondHalves (operand.Register n) = registerHalves s i n
+  secondHalves (operand.Memory a broadcast) = lanesOn s i (λ j. numberAt memory (bytesRead s i (operand.Memory a broadcast) j))
+
+  unfoldable pub gathered : Sources
+  gathered = record { destination = registerHalves s i (i .destination); first = firstHalves s i (i .first); second = secondHalves (i .second) }
+
+-- ---- a lane: "Products: 132 dest*src3+src2; 213 src2*dest+src3; 231 src2*src3+dest", d the destination's lane, f and x those of the
+-- first source (src2) and of the second (src3)
+
+abbrev pub laneOutcome : Operation → Mode → Bool → ℕ → ℕ → ℕ → Outcome
+laneOutcome Add m u d f x = halfAdd m u f x
+laneOutcome Multiply m u d f x = halfMultiply m u f x
+laneOutcome Subtract m u d f x = halfSubtract m u f x
+laneOutcome Divide m u d f x = halfDivide m u f x
+laneOutcome SquareRoot m u d f x = halfRoot m u x
+laneOutcome Fused132 m u d f x = halfMultiplyAdd m u d x f
+laneOutcome Fused213 m u d f x = halfMultiplyAdd m u f d x
+laneOutcome Fused231 m u d f x = halfMultiplyAdd m u f x d
+
+-- By the number of the mode, and a number that is not 0 where UE is unmasked. A mode is two bits here, so that answer 9 is never given.
+unfoldable pub laneResult : Operation → ℕ → ℕ → ℕ → ℕ → ℕ → Rounded
+laneResult op mode underflow d f x = answered (modeOf mode) (λ (m : Mode). laneOutcome op m (yes underflow) d f x)
+
+-- ---- all lanes
+
+module _ (s : State) (i : Instruction) (g : Sources) where
+  abbrev pub laneOf : ℕ → Rounded
+  laneOf j =
+      laneResult (i .operation) (roundingMode (i .rounding) (s .control)) (underflowUnmasked (i .rounding) (s .control))
+      (getD (g .destination) j 0) (getD (g .first) j 0) (getD (g .second) j 0)
+
+  unfoldable pub results : List ℕ
+  results = table 32 (λ j. cond (on s i j) (laneOf j .half) 0)
+
+  -- "Flags of all lanes that are on"
+  unfoldable pub raised : ℕ
+  raised = orAll (table 32 (λ j. cond (on s i j) (laneOf j .flags) 0))
+
+  -- 8: "If any exception raised by this instruction is unmasked"
+  unfoldable pub raisesUnmasked : Bool
+  raisesUnmasked = not (eqb (bitAnd raised (unmasked (i .rounding) (s .control))) 0)
+
+  -- "or-ed into the control word"
+  unfoldable pub controlAfter : ℕ
+  controlAfter = recorded (i .rounding) (s .control) raised
+
+-- ---- the destination: lanes that are off "keep the old destination, or become 0 with z. Bytes above the vector length become 0."
+
+-- byte q of the destination's register, that was b
+abbrev pub newByte : State → Instruction → List ℕ → ℕ → ℕ → ℕ
+newByte s i halves q b =
+    let j = q / 2 in
+    cond (on s i j) (getD halves j 0 / 256 ^ (q % 2) % 256)
+    (cond (ltb j (i .lanes) && not (i .zeroing)) b
+    0)
+
+unfoldable pub newRegister : State → Instruction → List ℕ → List ℕ → List ℕ
+newRegister s i halves old = table 64 (λ q. newByte s i halves q (getD old q 0))
+
+-- the vector file with the destination's 64 bytes anew
+unfoldable pub vectorsAfter : State → Instruction → List ℕ → List ℕ
+vectorsAfter s i halves =
+    let at = registerAt (i .destination) in
+    paste (s .vectors) at (newRegister s i halves (take 64 (drop at (s .vectors)))) 64

@@ -1,0 +1,11 @@
+-- What a reader opens, in this order.
+pub mod Lists
+pub mod State
+pub mod Memory
+pub mod Lanes
+pub mod Step
+pub mod Answers
+pub mod TwoRuns
+pub mod OffLanes
+pub mod Rows
+pub mod Theorems

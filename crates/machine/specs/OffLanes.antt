@@ -1,0 +1,31 @@
+-- Document 01: "Lanes that are off read nothing, fault nothing and flag nothing." The conditions of 7 and 8, spelt out. Their proofs are in
+-- proofs/OffLanes.antt; that lanes that are off read nothing is a case of TwoRuns.antt, where they are hidden.
+use Prim.Native.Nat.{ℕ, _≤_}
+use mathlib.Core.Path.{_≡_}
+use mathlib.Core.Logic.{_↔_, _≢_}
+use mathlib.Core.Bool.{true}
+use mathlib.Core.List.{List}
+use lib.Bits.{bitAnd}
+use Rattle.evex.specs.Decode.{decoded}
+use Rattle.evex.specs.declared.Instruction.{Instruction}
+use Rattle.evex.specs.declared.Decoded.the-variants.{Fields}
+use Rattle.machine.specs.State.{State}
+use Rattle.machine.specs.Memory.{needsOutside}
+use Rattle.machine.specs.Lanes.{Sources, unmasked, laneOf, raisesUnmasked}
+use Rattle.machine.specs.TwoRuns.{SwitchesOn, Needs}
+
+module _ (s : State) (i : Instruction) where
+  -- 7: an address that is needed, in the very sense of 'Two runs', "lies outside memory"
+  abbrev pub Faults : Type 0
+  Faults = (memoryLength : ℕ) → (needsOutside s i memoryLength ≡ true) ↔ ((a : ℕ) × Needs s i a × (memoryLength ≤ a))
+
+  -- 8: a lane that is on raises an exception that is unmasked
+  abbrev pub Raises : Type 0
+  Raises =
+      (g : Sources)
+      → (raisesUnmasked s i g ≡ true)
+      ↔ ((j : ℕ) × SwitchesOn s i j × (bitAnd (laneOf s i g j .flags) (unmasked (i .rounding) (s .control)) ≢ 0))
+
+-- Of every instruction.
+abbrev pub OffLanes : Type 0
+OffLanes = (s : State) (code : List ℕ) (i : Instruction) → decoded code ≡ Fields i → Faults s i × Raises s i

@@ -1,0 +1,76 @@
+-- Document 01, 'Lanes and bytes to try': the rows marked *, one statement over the single table `starred` of the arithmetic, shown for the
+-- arithmetic and for a step. Its proof is in proofs/Rows.antt.
+use Prim.Native.Nat.{ℕ, _+_, _*_, _/_, _%_, _^_}
+use mathlib.Core.Path.{_≡_}
+use mathlib.Core.Bool.{cond}
+use mathlib.Core.List.{List, [], _∷_, _++_, map}
+use lib.Bits.{bitOr}
+use lib.ListN.{replicate}
+use Rattle.half.specs.Rows.{Operation, plus, minus, times, over, root, fused, Row, starred, outcomeOf}
+use Rattle.half.specs.declared.Mode.{Mode}
+use Rattle.half.specs.declared.Mode.the-variants.{Nearest, Down, Up, TowardZero}
+use Rattle.half.specs.declared.Outcome.{Outcome}
+use Rattle.machine.specs.State.{State, Stepped}
+use Rattle.machine.specs.Step.{step}
+
+-- ---- the bytes: a stands in register 1, b in register 2, c in register 0, which is the destination; mask register 1, length bits 10
+
+-- VADDPH, VSUBPH, VMULPH, VDIVPH of registers 1 and 2; VSQRTPH of register 1; VFMADD231PH, register 1 * register 2 + register 0
+abbrev pub bytesOf : Operation → List ℕ
+bytesOf plus = 0x62 ∷ 0xF5 ∷ 0x74 ∷ 0x49 ∷ 0x58 ∷ 0xC2 ∷ []
+bytesOf minus = 0x62 ∷ 0xF5 ∷ 0x74 ∷ 0x49 ∷ 0x5C ∷ 0xC2 ∷ []
+bytesOf times = 0x62 ∷ 0xF5 ∷ 0x74 ∷ 0x49 ∷ 0x59 ∷ 0xC2 ∷ []
+bytesOf over = 0x62 ∷ 0xF5 ∷ 0x74 ∷ 0x49 ∷ 0x5E ∷ 0xC2 ∷ []
+bytesOf root = 0x62 ∷ 0xF5 ∷ 0x7C ∷ 0x49 ∷ 0x51 ∷ 0xC1 ∷ []
+bytesOf fused = 0x62 ∷ 0xF6 ∷ 0x75 ∷ 0x49 ∷ 0xB8 ∷ 0xC2 ∷ []
+
+-- ---- the state
+
+-- 64 bytes with h in lane 0. All other lanes hold 7D7D, a signalling NaN: were one of them on, it would raise IE.
+abbrev register : ℕ → List ℕ
+register h = h % 256 ∷ h / 256 ∷ replicate 62 0x7D
+
+abbrev numberOfMode : Mode → ℕ
+numberOfMode Nearest = 0
+numberOfMode Down = 1
+numberOfMode Up = 2
+numberOfMode TowardZero = 3
+
+-- the mode in bits 13 and 14; all exceptions masked, or all but UE (bit 11)
+abbrev controlOf : Row → ℕ
+controlOf r = numberOfMode (r .mode) * 2 ^ 13 + cond (r .unmasked) 0x1780 0x1F80
+
+-- the row's state, with d in lane 0 of the destination; bit 0 of mask register 1 alone is one
+abbrev stateOf : Row → ℕ → ℕ → ℕ → State
+stateOf r d control pointer =
+    record {
+      vectors = register d ++ (register (r .a) ++ (register (r .b) ++ replicate (29 * 64) 0x7D));
+      masks = 0 ∷ 1 ∷ replicate 6 0;
+      general = replicate 16 0;
+      control = control;
+      pointer = pointer;
+    }
+
+abbrev pub start : Row → State
+start r = stateOf r (r .c) (controlOf r) 0
+
+-- ---- what a step is to give: the half in lane 0, its flags in the control word, the pointer moved; with UE unmasked 8, and flags alone
+
+abbrev pub after : Row → Stepped
+after r =
+    cond (r .unmasked)
+    (record { answer = record { number = 8; length = 0 }; state = stateOf r (r .c) (bitOr (controlOf r) (r .gives .flags)) 0 })
+    (record { answer = record { number = 0; length = 6 }; state = stateOf r (r .gives .half) (bitOr (controlOf r) (r .gives .flags)) 6 })
+
+-- ---- the statement
+
+-- what the definitions give for a row: the arithmetic's, and a step's with the row in lane 0 (and no memory)
+abbrev pub given : Row → Outcome × Stepped
+given r = (outcomeOf r, step [] (start r) (bytesOf (r .op)))
+
+abbrev pub expected : Row → Outcome × Stepped
+expected r = (r .gives, after r)
+
+-- Every starred row.
+abbrev pub StarredRows : Type 0
+StarredRows = map given starred ≡ map expected starred

@@ -1,0 +1,101 @@
+-- Document 01, 'Numbers the engine gets back': the answer, what it leaves, a step, a run.
+use Prim.Native.Nat.{ℕ, _+_, _%_, _^_}
+use mathlib.Core.Bool.{Bool, false, cond, not}
+use mathlib.Core.List.{List, [], _∷_, _++_, map}
+use lib.Dec.{eqb, leb}
+use lib.ListN.{length}
+use Rattle.evex.specs.First.{firstOf}
+use Rattle.evex.specs.Decode.{numberOf, refusals, decoded}
+use Rattle.evex.specs.declared.Instruction.{Instruction}
+use Rattle.evex.specs.declared.Decoded.{Decoded}
+use Rattle.evex.specs.declared.Decoded.the-variants.{Fields, Refused}
+use Rattle.machine.specs.State.{State, Stepped}
+use Rattle.machine.specs.Memory.{needsOutside}
+use Rattle.machine.specs.Lanes.{gathered, results, raisesUnmasked, controlAfter, vectorsAfter}
+
+-- ---- the order of the answers: "1; 2; no bytes (3); byte 0 (4); .. 6; 7; 8"
+
+-- by the instruction, where there is one
+abbrev pub ofFields : {A : Type 0} → Decoded → A → (Instruction → A) → A
+ofFields (Fields i) otherwise f = f i
+ofFields (Refused r) otherwise f = otherwise
+
+-- 1: "vector file not 2,048 bytes"
+unfoldable pub wrongVectorFile : State → Bool
+wrongVectorFile s = not (eqb (length (s .vectors)) 2048)
+
+-- 2: "control word has a bit above 15"
+unfoldable pub highControlBit : State → Bool
+highControlBit s = leb (2 ^ 16) (s .control)
+
+-- 7: "an address needed by a lane that is on lies outside memory"
+unfoldable pub outsideMemory : List ℕ → State → Decoded → Bool
+outsideMemory memory s d = ofFields d false (λ (i : Instruction). needsOutside s i (length memory))
+
+-- 8: "unmasked numeric exception"
+unfoldable pub unmaskedException : List ℕ → State → Decoded → Bool
+unmaskedException memory s d = ofFields d false (λ (i : Instruction). raisesUnmasked s i (gathered memory s i))
+
+-- the conditions before 7, with their numbers
+unfoldable pub beforeSeven : State → List ℕ → List (Bool × ℕ)
+beforeSeven s code = (wrongVectorFile s, 1) ∷ (highControlBit s, 2) ∷ map (λ c. (c .0, numberOf (c .1))) (refusals code)
+
+-- all of them
+unfoldable pub conditions : List ℕ → State → List ℕ → List (Bool × ℕ)
+conditions memory s code =
+    beforeSeven s code ++ ((outsideMemory memory s (decoded code), 7) ∷ (unmaskedException memory s (decoded code), 8) ∷ [])
+
+-- the number beside the first that holds; 0, "done", where none does
+unfoldable pub answerOf : List ℕ → State → List ℕ → ℕ
+answerOf memory s code = firstOf (conditions memory s code) 0
+
+-- ---- what each answer leaves
+
+-- 1 to 7: "all as before"
+abbrev pub refused : ℕ → State → Stepped
+refused n s = record { answer = record { number = n; length = 0 }; state = s }
+
+-- 8: "only flags added to the control word"
+unfoldable pub stopped : List ℕ → State → Instruction → Stepped
+stopped memory s i =
+    record {
+      answer = record { number = 8; length = 0 };
+      state =
+          record {
+            vectors = s .vectors;
+            masks = s .masks;
+            general = s .general;
+            control = controlAfter s i (gathered memory s i);
+            pointer = s .pointer;
+          };
+    }
+
+-- 0: "new state; a step moves the pointer by the length, modulo 2 to the 64"
+unfoldable pub completed : List ℕ → State → Instruction → Stepped
+completed memory s i =
+    record {
+      answer = record { number = 0; length = i .size };
+      state =
+          record {
+            vectors = vectorsAfter s i (results s i (gathered memory s i));
+            masks = s .masks;
+            general = s .general;
+            control = controlAfter s i (gathered memory s i);
+            pointer = (s .pointer + i .size) % 2 ^ 64;
+          };
+    }
+
+-- ---- a step, and a run over a sequence of byte strings
+
+-- Where decoding refuses, the answer is one of 1 to 6 (specs/Answers.antt, proved in proofs/).
+unfoldable pub step : List ℕ → State → List ℕ → Stepped
+step memory s code =
+    let n : ℕ = answerOf memory s code in
+    ofFields (decoded code) (refused n s)
+    (λ (i : Instruction). cond (eqb n 0) (completed memory s i) (cond (eqb n 8) (stopped memory s i) (refused n s)))
+
+-- "In either run a step is given its string, the state that the run's last step left (at first, the start) and the run's memory,
+-- which stays as it was." What each step gives.
+unfoldable pub run : List ℕ → State → List (List ℕ) → List Stepped
+run memory s [] = []
+run memory s (code ∷ codes) = step memory s code ∷ run memory (step memory s code .state) codes

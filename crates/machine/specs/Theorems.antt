@@ -1,0 +1,15 @@
+-- What is proved of the machine, all in one: proofs/Theorems.antt.
+use Rattle.machine.specs.Answers.{Answers}
+use Rattle.machine.specs.OffLanes.{OffLanes}
+use Rattle.machine.specs.TwoRuns.{TwoRuns}
+use Rattle.machine.specs.Rows.{StarredRows}
+
+pub record Theorems : Type 1 where
+  -- demand 1: which answer is given, and what it leaves
+  pub answers : Answers
+  -- the conditions of 7 and 8: lanes that are off fault nothing and flag nothing
+  pub offLanes : OffLanes
+  -- demand 3: two runs
+  pub twoRuns : TwoRuns
+  -- the rows marked * of 'Lanes and bytes to try'
+  pub starredRows : StarredRows

@@ -1,0 +1,106 @@
+-- Loops over the indices 0, 1, .., one at each turn: what stands in a list, in or-ed flags or in a test after j turns. The list is a table at the end.
+-- Assumes nothing.
+use Prim.Native.Nat.{ℕ, zero, suc, _+_, _<_, _≤_}
+use mathlib.Core.Path.{_≡_, refl, sym, ap, _∙_}
+use mathlib.Core.Bool.{Bool, true, false, _||_, true≢false}
+use mathlib.Core.List.{List}
+use native.Mathlib.Decide.{decLt}
+use native.Mathlib.Nat.{le-antisymm}
+use native.Mathlib.Numerals.{add-one}
+use native.Mathlib.Omega.{arith}
+use lib.Bits.{bitOr}
+use lib.ListN.{length, getD, set, length-set}
+use lib.Seq.{getD-set-same, getD-set-other}
+use Rattle.half.specs.Operations.{some}
+use Rattle.machine.specs.Lists.{table, orAll}
+use Rattle.machine.proofs.Tables.{is-table, or-next, some-next}
+
+-- a list of n numbers that are f's up to j, and d's from there on
+pub record Filled (f : ℕ → ℕ) (n : ℕ) (d l : List ℕ) (j : ℕ) : Type 0 where
+  pub within : j ≤ n
+  pub size : length l ≡ n
+  pub filled : (k : ℕ) → k < j → getD l k 0 ≡ f k
+  pub left : (k : ℕ) → j ≤ k → getD l k 0 ≡ getD d k 0
+
+pub none : {f : ℕ → ℕ} {n : ℕ} {d : List ℕ} → length d ≡ n → Filled f n d d 0
+none e = record { within = omega arith; size = e; filled = λ k h. absurd (omega arith); left = λ k h. refl }
+
+module _ {f : ℕ → ℕ} {n : ℕ} {d l : List ℕ} {j : ℕ} (F : Filled f n d l j) where
+  -- one more turn: a number of f's is stored,
+  pub more : {v : ℕ} → j < n → v ≡ f j → Filled f n d (set l j v) (j + 1)
+  more {v} h e =
+      record {
+        within = omega arith;
+        size = length-set l j v ∙ F .size;
+        filled = filled-more;
+        left = λ k m. getD-set-other l j k v 0 (λ q. absurd (omega arith)) ∙ F .left k (omega arith);
+      }
+    where
+      filled-more : (k : ℕ) → k < j + 1 → getD (set l j v) k 0 ≡ f k
+      filled-more k m =
+          elim (decLt k j) [
+            | yes y ↦ getD-set-other l j k v 0 (λ q. absurd (omega arith)) ∙ F .filled k y
+            | no y ↦
+                let q : k ≡ j = omega arith in
+                let i : j < length l = omega arith in
+                rw (q, getD-set-same l j v 0 i) e
+          ]
+
+  -- or d's own is left, where it is f's
+  pub same : j < n → getD d j 0 ≡ f j → Filled f n d l (j + 1)
+  same h e = record { within = omega arith; size = F .size; filled = filled-same; left = λ k m. F .left k (omega arith) }
+    where
+      filled-same : (k : ℕ) → k < j + 1 → getD l k 0 ≡ f k
+      filled-same k m =
+          elim (decLt k j) [
+            | yes y ↦ F .filled k y
+            | no y ↦ let q : k ≡ j = omega arith in rw q (F .left j (omega arith) ∙ e)
+          ]
+
+  pub all : n ≤ j → l ≡ table n f
+  all h = is-table n f 0 l (F .size) (λ k m. F .filled k (omega arith))
+
+-- the flags of the indices passed, or-ed
+pub record Ored (f : ℕ → ℕ) (x j : ℕ) : Type 0 where
+  pub is : x ≡ orAll (table j f)
+
+pub or-none : {f : ℕ → ℕ} → Ored f 0 0
+unfolding table
+or-none = record { is = refl }
+
+module _ {f : ℕ → ℕ} {x j : ℕ} (O : Ored f x j) where
+  pub or-more : {v : ℕ} → v ≡ f j → Ored f (bitOr x v) (j + 1)
+  or-more e = record { is = rw (O .is, e) (sym (or-next j f)) }
+
+  pub or-all : {n : ℕ} → j ≤ n → n ≤ j → x ≡ orAll (table n f)
+  or-all h k = O .is ∙ ap (λ (i : ℕ). orAll (table i f)) (le-antisymm h k)
+
+-- whether a test held of some index passed
+pub record Found (n : ℕ) (p : ℕ → Bool) (x : Bool) (j : ℕ) : Type 0 where
+  pub within : j ≤ n
+  pub is : x ≡ some p (table j (λ k. k))
+
+pub found-none : {n : ℕ} {p : ℕ → Bool} → Found n p false 0
+unfolding table
+found-none = record { within = omega arith; is = refl }
+
+module _ {n : ℕ} {p : ℕ → Bool} {x : Bool} {j : ℕ} (F : Found n p x j) where
+  pub found-more : {v : Bool} → j < n → v ≡ p j → Found n p (x || v) (j + 1)
+  found-more h e = record { within = omega arith; is = rw (F .is, e) (sym (some-next p j (λ k. k))) }
+
+  pub found-all : n ≤ j → x ≡ some p (table n (λ k. k))
+  found-all h = F .is ∙ ap (λ (i : ℕ). some p (table i (λ k. k))) (le-antisymm (F .within) h)
+
+-- where none was found, the test held of no index
+pub neither : (a b : Bool) → (a || b) ≡ false → (a ≡ false) × (b ≡ false)
+neither true b e = absurd (true≢false e)
+neither false b e = (refl, e)
+
+pub nowhere : (p : ℕ → Bool) (n j : ℕ) → some p (table n (λ k. k)) ≡ false → j < n → p j ≡ false
+nowhere p zero j e h = absurd (omega arith)
+nowhere p (suc n) j e h =
+    let both : (some p (table n (λ k. k)) ≡ false) × (p n ≡ false) = neither _ _ (sym (some-next p n (λ k. k)) ∙ rw (add-one n) e) in
+    elim (decLt j n) [
+      | yes y ↦ nowhere p n j (both .0) y
+      | no y ↦ let q : j ≡ n = omega arith in rw q (both .1)
+    ]

@@ -1,0 +1,8 @@
+-- What the functions' proofs cite.
+pub mod Filling
+pub mod Sets
+pub mod Signed
+pub mod Words
+pub mod Lane
+pub mod Stored
+pub mod Meaning

@@ -1,0 +1,166 @@
+-- What the parts of a step compute is what the machine defines.
+-- Assumes nothing.
+use Prim.Native.Nat.{ℕ, _+_, _*_, _/_, _%_, _^_, _<_}
+use mathlib.Core.Path.{_≡_, refl, sym, ap, _∙_}
+use mathlib.Core.Bool.{Bool, true, false, cond, not, _&&_, and-false}
+use mathlib.Core.List.{List, [], _∷_}
+use native.Mathlib.Nat.{zero-div}
+use native.Mathlib.Omega.{arith}
+use lib.Dec.{leb, ltb, eqb}
+use lib.Bits.{bitAnd}
+use lib.ListN.{length, getD}
+use lib.Seq.{paste}
+use Rattle.evex.specs.Bits.{bits}
+use Rattle.evex.specs.declared.Base.{Base}
+use Rattle.evex.specs.declared.Base.the-variants as base
+use Rattle.evex.specs.declared.Index.{Index}
+use Rattle.evex.specs.declared.Index.the-variants as index
+use Rattle.evex.specs.declared.Address.{Address}
+use Rattle.evex.specs.declared.Source.{Source}
+use Rattle.evex.specs.declared.Source.the-variants as source
+use Rattle.evex.specs.declared.Operand.{Operand}
+use Rattle.evex.specs.declared.Operand.the-variants as operand
+use Rattle.evex.specs.declared.Instruction.{Instruction}
+use Rattle.evex.specs.declared.Decoded.the-variants.{Fields}
+use Rattle.evex.specs.Decode.{decoded}
+use Rattle.half.specs.Operations.{some}
+use Rattle.machine.specs.Lists.{table}
+use Rattle.machine.specs.State.{State, Stepped, registerAt}
+use Rattle.machine.specs.Memory.{on, indexValue, baseValue, wrapped, addressOf, wordAddress, bytesRead, needsOutside}
+use Rattle.machine.specs.Lanes.{Sources, roundingMode, unmasked, recorded, gathered, registerHalves, firstHalves, secondHalves, results, raised, raisesUnmasked, controlAfter, newByte, newRegister, vectorsAfter}
+use Rattle.machine.specs.Step.{refused, stopped, completed, step}
+use Rattle.machine.proofs.Ends.{refuses-memory, stops, completes}
+use Rattle.machine.proofs.Tables.{table-equal, getD-table}
+use Rattle.step.specs.declared.lanes.Results.{Results}
+use Rattle.step.specs.Stepped.{steppedOf}
+use Rattle.step.specs.Work.{onBy, keptBy, baseFrom, indexFrom, addressFrom, firstWord, wordFrom, wordPlaces, wordsOutside, outside, halvesWhere, registerWhere, firstWhere, secondWhere, resultsWhere, byteWhere, storedBytes, storedFile, Left, leftOf, finished, executed}
+
+-- ---- addresses: the next instruction's pointer may be cut to 64 bits before the sum
+
+module _ (s : State) (i : Instruction) (next : ℕ) (n : next ≡ (s .pointer + i .size) % 2 ^ 64) where
+  from-base : (b : Base) (x y : ℕ) → (baseFrom (s .general) next b + x + y) % 2 ^ 64 ≡ (baseValue s i b + x + y) % 2 ^ 64
+  from-base base.None x y = refl
+  from-base (base.General k) x y = refl
+  from-base base.NextInstruction x y = rw n (omega arith)
+
+  index-is : (k : Index) → indexFrom (s .general) k ≡ indexValue s i k
+  index-is index.None = refl
+  index-is (index.Scaled k scale) = refl
+
+  address-is : (a : Address) → addressFrom (s .general) next a ≡ addressOf s i a
+  unfolding addressFrom addressOf
+  address-is a = rw (← index-is (a .index)) (from-base (a .base) (indexFrom (s .general) (a .index)) (wrapped (a .displacement)))
+
+  -- ---- 7
+
+  nowhere-off : (p : ℕ → Bool) (l : List ℕ) → some (λ j. p j && false) l ≡ false
+  nowhere-off p [] = refl
+  nowhere-off p (j ∷ l) = rw (and-false (p j)) (nowhere-off p l)
+
+  outside-by : (length : ℕ) (o : Operand)
+      → outside (on s i) length (firstWord (s .general) next o) o ≡ some (λ j. on s i j && some (λ a. leb length a) (bytesRead s i o j)) (table 32 (λ j. j))
+  unfolding bytesRead wordAddress wordsOutside
+  outside-by length (operand.Register r) = sym (nowhere-off (on s i) (table 32 (λ j. j)))
+  outside-by length (operand.Memory a broadcast) = rw (address-is a)
+
+  -- ---- sources
+
+  module _ (memory : List ℕ) where
+    register-is : (r : ℕ) → registerWhere (on s i) (s .vectors) r ≡ registerHalves s i r
+    unfolding registerHalves halvesWhere
+    register-is r = refl
+
+    first-is : (o : Source) → firstWhere (on s i) (s .vectors) o ≡ firstHalves s i o
+    first-is source.None = refl
+    first-is (source.Register r) = register-is r
+
+    second-is : (o : Operand) → secondWhere (on s i) (s .vectors) memory (firstWord (s .general) next o) o ≡ secondHalves memory s i o
+    unfolding halvesWhere bytesRead wordAddress
+    second-is (operand.Register r) = register-is r
+    second-is (operand.Memory a broadcast) = rw (address-is a)
+
+-- ---- lanes, and the destination: a result is 0 where its lane is off
+
+module _ (s : State) (i : Instruction) (g : Sources) where
+  results-is :
+      resultsWhere (on s i) (i .operation) (roundingMode (i .rounding) (s .control)) (bits (unmasked (i .rounding) (s .control)) 4 1)
+      (g .destination) (g .first) (g .second)
+      ≡ record { halves = results s i g; flags = raised s i g }
+  unfolding resultsWhere results raised
+  results-is = refl
+
+  off : (j : ℕ) → j < 32 → on s i j ≡ false → getD (results s i g) j 0 ≡ 0
+  unfolding results
+  off j h e = getD-table 32 _ j 0 h ∙ rw e
+
+  byte-by : (t u : Bool) (b h k : ℕ) → (t ≡ false → h ≡ 0) → cond (not t && u) b (h / 256 ^ k % 256) ≡ cond t (h / 256 ^ k % 256) (cond u b 0)
+  byte-by true u b h k z = refl
+  byte-by false true b h k z = refl
+  byte-by false false b h k z = rw (z refl, zero-div (256 ^ k))
+
+  stored-is : storedFile (keptBy (on s i) (i .lanes) (i .zeroing)) (results s i g) (i .destination) (s .vectors) ≡ vectorsAfter s i (results s i g)
+  unfolding storedFile storedBytes vectorsAfter newRegister
+  stored-is =
+      ap (λ (bytes : List ℕ). paste (s .vectors) (registerAt (i .destination)) bytes 64)
+      (table-equal 64
+      (λ q h.
+      byte-by (on s i (q / 2)) (ltb (q / 2) (i .lanes) && not (i .zeroing)) _ (getD (results s i g) (q / 2) 0) (q % 2)
+      (off (q / 2) (omega arith))))
+
+-- ---- the whole, from what the parts give
+
+-- with what an instruction does not write
+abbrev pub joined : State → Left → Stepped
+joined s l = steppedOf (l .answer) (l .vectors) (s .masks) (s .general) (l .control) (l .pointer)
+
+either : (s : State) (t : Bool) (x y : Left) → joined s (cond t x y) ≡ cond t (joined s x) (joined s y)
+either s true x y = refl
+either s false x y = refl
+
+module _ (memory : List ℕ) (s : State) (i : Instruction) (p : ℕ → Bool) (e : p ≡ onBy (s .masks) (i .mask) (i .lanes))
+    (next : ℕ) (n : next ≡ (s .pointer + i .size) % 2 ^ 64) where
+  lanes-are : p ≡ on s i
+  unfolding on
+  lanes-are = e
+
+  pub outside-is : outside p (length memory) (firstWord (s .general) next (i .second)) (i .second) ≡ needsOutside s i (length memory)
+  unfolding needsOutside
+  outside-is = rw lanes-are (outside-by s i next n (length memory) (i .second))
+
+  pub refuses : outside p (length memory) (firstWord (s .general) next (i .second)) (i .second) ≡ true → refused 7 s ≡ executed memory s i
+  unfolding executed
+  refuses t = rw (← outside-is, t)
+
+  module _ (inside : outside p (length memory) (firstWord (s .general) next (i .second)) (i .second) ≡ false) (r : Results)
+      (computed : r ≡ resultsWhere p (i .operation) (roundingMode (i .rounding) (s .control)) (bits (unmasked (i .rounding) (s .control)) 4 1)
+      (registerWhere p (s .vectors) (i .destination)) (firstWhere p (s .vectors) (i .first))
+      (secondWhere p (s .vectors) memory (firstWord (s .general) next (i .second)) (i .second))) where
+    computed-is : r ≡ record { halves = results s i (gathered memory s i); flags = raised s i (gathered memory s i) }
+    unfolding gathered
+    computed-is =
+        rw (computed, lanes-are, register-is s i next n memory (i .destination), first-is s i next n memory (i .first), second-is s i next n memory (i .second))
+        (results-is s i (gathered memory s i))
+
+    pub finishes : joined s (finished p i r next (s .vectors) (s .control) (s .pointer)) ≡ executed memory s i
+    unfolding executed finished raisesUnmasked stopped completed controlAfter
+    finishes =
+        let g = gathered memory s i in
+        let control = recorded (i .rounding) (s .control) (raised s i g) in
+        rw (← outside-is, inside, computed-is, lanes-are, stored-is s i g, n)
+        (either s (not (eqb (bitAnd (raised s i g) (unmasked (i .rounding) (s .control))) 0))
+        (leftOf (record { number = 8; length = 0 }) (s .vectors) control (s .pointer))
+        (leftOf (record { number = 0; length = i .size }) (vectorsAfter s i (results s i g)) control ((s .pointer + i .size) % 2 ^ 64)))
+
+-- ---- a step of a decoded instruction
+
+module _ (memory : List ℕ) (s : State) (code : List ℕ) (size : length (s .vectors) ≡ 2048) (control : s .control < 2 ^ 16)
+    {i : Instruction} (fields : decoded code ≡ Fields i) where
+  pub executes : executed memory s i ≡ step memory s code
+  unfolding executed
+  executes = go (needsOutside s i (length memory)) refl (raisesUnmasked s i (gathered memory s i)) refl
+    where
+      go : (t : Bool) → needsOutside s i (length memory) ≡ t → (u : Bool) → raisesUnmasked s i (gathered memory s i) ≡ u
+          → cond t (refused 7 s) (cond u (stopped memory s i) (completed memory s i)) ≡ step memory s code
+      go true o u x = sym (refuses-memory memory s code size control fields o)
+      go false o true x = sym (stops memory s code size control fields o x)
+      go false o false x = sym (completes memory s code size control fields o x)

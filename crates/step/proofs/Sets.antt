@@ -1,0 +1,113 @@
+-- Sets of lanes as bits: what `&`, `^` and 2 ^ n - 1 say of each lane.
+-- Assumes nothing.
+use Prim.Native.Nat.{ℕ, zero, suc, _+_, _-_, _*_, _/_, _%_, _^_, _<_, _≤_}
+use mathlib.Core.Path.{_≡_, refl, sym, ap, ap₂, _∙_}
+use mathlib.Core.Bool.{Bool, true, false, cond, not, _&&_, _||_, and-comm, and-true}
+use mathlib.Core.List.{List}
+use native.Mathlib.Decide.{decLt}
+use native.Mathlib.Nat.{zero-div, div-eq-of-lt, lt-of-lt-of-le}
+use native.Mathlib.Omega.{arith}
+use borrow.Author.Tests.{lt-ltb, le-ltb, ltb-true, eq-eqb, ne-eqb}
+use lib.Arith.{digits-div, digits-mod}
+use lib.Bits.{bitAnd, bitXor, and-shr, and-mod, xor-shr, xor-mod}
+use lib.Dec.{eqb, ltb}
+use lib.ListN.{getD}
+use lib.Pow.{pow-pos, pow-mono, ones-lt, ones-split}
+use Rattle.evex.specs.Bits.{isSet}
+use Rattle.step.specs.Work.{onBy, keptBy}
+
+-- ---- the bits of `&` and `^`
+
+abbrev differs : Bool → Bool → Bool
+differs true b = not b
+differs false b = b
+
+and-of : (x y : ℕ) → x < 2 → y < 2 → eqb (bitAnd x y) 1 ≡ (eqb x 1 && eqb y 1)
+and-of zero y h k = refl
+and-of (suc zero) zero h k = refl
+and-of (suc zero) (suc zero) h k = refl
+and-of (suc zero) (suc (suc y)) h k = absurd (omega arith)
+and-of (suc (suc x)) y h k = absurd (omega arith)
+
+xor-of : (x y : ℕ) → x < 2 → y < 2 → eqb (bitXor x y) 1 ≡ differs (eqb x 1) (eqb y 1)
+xor-of zero y h k = refl
+xor-of (suc zero) zero h k = refl
+xor-of (suc zero) (suc zero) h k = refl
+xor-of (suc zero) (suc (suc y)) h k = absurd (omega arith)
+xor-of (suc (suc x)) y h k = absurd (omega arith)
+
+pub and-bit : (a b j : ℕ) → isSet (bitAnd a b) j ≡ (isSet a j && isSet b j)
+and-bit a b j = rw (and-shr a b j, and-mod (a / 2 ^ j) (b / 2 ^ j) 1) (and-of (a / 2 ^ j % 2 ^ 1) (b / 2 ^ j % 2 ^ 1) (omega arith) (omega arith))
+
+xor-bit : (a b j : ℕ) → isSet (bitXor a b) j ≡ differs (isSet a j) (isSet b j)
+xor-bit a b j = rw (xor-shr a b j, xor-mod (a / 2 ^ j) (b / 2 ^ j) 1) (xor-of (a / 2 ^ j % 2 ^ 1) (b / 2 ^ j % 2 ^ 1) (omega arith) (omega arith))
+
+-- ---- the bits of 2 ^ n - 1: those below n
+
+ones-high : {n : ℕ} (m j : ℕ) → suc m + j ≡ n → (2 ^ n - 1) / 2 ^ j ≡ 2 ^ suc m - 1
+ones-high m j e = rw (← e, ones-split (suc m) j) (digits-div (2 ^ suc m - 1) (ones-lt j))
+
+ones-odd : (m : ℕ) → (2 ^ suc m - 1) % 2 ≡ 1
+ones-odd m = omega (arith, pow-pos m)
+
+pub ones-bit : (n j : ℕ) → isSet (2 ^ n - 1) j ≡ ltb j n
+ones-bit n j =
+    elim (decLt j n) [
+      | yes h ↦
+          let e : suc (n - j - 1) + j ≡ n = omega arith in
+          rw (lt-ltb j n h, ones-high (n - j - 1) j e) (eq-eqb ((2 ^ suc (n - j - 1) - 1) % 2) 1 (ones-odd (n - j - 1)))
+      | no h ↦
+          let k : n ≤ j = omega arith in
+          let e : (2 ^ n - 1) / 2 ^ j ≡ 0 = div-eq-of-lt (lt-of-lt-of-le (ones-lt n) (pow-mono k)) in
+          rw (le-ltb j n k, e)
+    ]
+
+-- ---- the sets of the code
+
+same-sets : {f g : ℕ → Bool} → ((j : ℕ) → f j ≡ g j) → f ≡ g
+same-sets h = λ i j. h j i
+
+-- every lane below the number of lanes, or those whose bit in the mask is one besides
+pub on-all : (masks : List ℕ) (mask lanes : ℕ) → mask ≡ 0 → isSet (2 ^ lanes - 1) ≡ onBy masks mask lanes
+on-all masks mask lanes e = same-sets (λ j. rw (ones-bit lanes j, e) (sym (and-true (ltb j lanes))))
+
+pub on-some : (masks : List ℕ) (mask lanes : ℕ) → (mask ≡ 0 → ⊥) → isSet (bitAnd (getD masks mask 0) (2 ^ lanes - 1)) ≡ onBy masks mask lanes
+on-some masks mask lanes n =
+    same-sets
+    (λ j. rw (and-bit (getD masks mask 0) (2 ^ lanes - 1) j, ones-bit lanes j, ne-eqb mask 0 n) (and-comm (isSet (getD masks mask 0) j) (ltb j lanes)))
+
+-- no lane with zeroing, or else those below the number of lanes that are off
+no-bit : (j : ℕ) → isSet 0 j ≡ false
+no-bit j = rw (zero-div (2 ^ j))
+
+and-false : (a b : Bool) → false ≡ (a && (b && false))
+and-false true true = refl
+and-false true false = refl
+and-false false b = refl
+
+pub kept-none : (on lanes : ℕ) → isSet 0 ≡ keptBy (isSet on) lanes true
+kept-none on lanes = same-sets (λ j. no-bit j ∙ and-false (not (isSet on j)) (ltb j lanes))
+
+off-below : (t : Bool) (j lanes : ℕ) → lanes ≤ 64 → (differs t (ltb j 64) && ltb j lanes) ≡ (not t && (ltb j lanes && true))
+off-below t j lanes h =
+    elim (decLt j lanes) [
+      | yes l ↦ rw (lt-ltb j lanes l, lt-ltb j 64 (omega arith)) (go t)
+      | no l ↦ rw (le-ltb j lanes (omega arith)) (gone t (ltb j 64))
+    ]
+  where
+    go : (t : Bool) → (differs t true && true) ≡ (not t && true)
+    go true = refl
+    go false = refl
+
+    gone : (t u : Bool) → (differs t u && false) ≡ (not t && false)
+    gone true true = refl
+    gone true false = refl
+    gone false true = refl
+    gone false false = refl
+
+pub kept-some : (on lanes : ℕ) → lanes ≤ 32 → isSet (bitAnd (bitXor on (2 ^ 64 - 1)) (2 ^ lanes - 1)) ≡ keptBy (isSet on) lanes false
+kept-some on lanes h =
+    same-sets
+    (λ j.
+    rw (and-bit (bitXor on (2 ^ 64 - 1)) (2 ^ lanes - 1) j, xor-bit on (2 ^ 64 - 1) j, ones-bit 64 j, ones-bit lanes j)
+    (off-below (isSet on j) j lanes (omega arith)))

@@ -1,0 +1,30 @@
+-- A lane that is on reads both bytes of its word inside memory, where no word was found outside.
+-- Assumes nothing.
+use Prim.Native.Nat.{ℕ, _+_, _%_, _^_, _<_}
+use mathlib.Core.Path.{_≡_}
+use mathlib.Core.Bool.{Bool, true, false, _&&_, _||_}
+use native.Mathlib.Omega.{arith}
+use borrow.Author.Tests.{leb-false}
+use lib.Dec.{leb}
+use Rattle.half.specs.Operations.{some}
+use Rattle.machine.specs.Lists.{table}
+use Rattle.step.specs.Work.{wordFrom, wordPlaces, wordsOutside}
+use Rattle.step.proofs.Filling.{neither, nowhere}
+
+pub record Inside (length w : ℕ) : Type 0 where
+  pub below : w + 1 < length
+  pub plain : (w + 1) % 2 ^ 64 ≡ w + 1
+
+word-inside : (length w : ℕ) → length < 2 ^ 64 → some (λ a. leb length a) (wordPlaces w) ≡ false → Inside length w
+word-inside length w h e =
+    let both = neither _ _ e in
+    let first : w < length = leb-false length w (both .0) in
+    let second : (w + 1) % 2 ^ 64 < length = leb-false length ((w + 1) % 2 ^ 64) (neither _ _ (both .1) .0) in
+    record { below = omega arith; plain = omega arith }
+
+pub inside : (on : ℕ → Bool) (length at : ℕ) (broadcast : Bool) (j : ℕ) → length < 2 ^ 64
+    → wordsOutside on length at broadcast ≡ false → j < 32 → on j ≡ true → Inside length (wordFrom at broadcast j)
+unfolding wordsOutside
+inside on length at broadcast j l e h t =
+    word-inside length (wordFrom at broadcast j) l
+    (rw t at (nowhere (λ k. on k && some (λ a. leb length a) (wordPlaces (wordFrom at broadcast k))) 32 j e h))

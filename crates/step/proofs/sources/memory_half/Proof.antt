@@ -1,0 +1,45 @@
+use mathlib.Core.Path.{_∙_, sym}
+use lib.ListN.{length}
+use Rattle.evex.specs.Bits.{isSet}
+use Rattle.step.specs.Work.{wordFrom}
+use Rattle.step.proofs.Words.{Inside, inside}
+use borrow.Author.Needs.{needs}
+use Rattle.step.proofs.sources.memory_half.Statement.{statement}
+use Rattle.step.proofs.sources.memory_half.Tie as tie
+use Rattle.step.proofs.sources.memory_half.Reads as reads
+use Rattle.step.proofs.sources.memory_half.Lts as lts
+use Rattle.step.proofs.address.word_from.Reads as word-from-reads
+use Rattle.step.proofs.mask.has.Reads as has-reads
+use Rattle.step.proofs.sources.half_at.Reads as half-at-reads
+
+-- src/sources.rt:55:8
+has-requires : tie.Need-has-requires
+has-requires c κs = search needs
+
+-- src/sources.rt:56:32
+word-from-requires : tie.Need-word-from-requires
+word-from-requires c κs = search needs
+
+-- the lane is on
+known : (c : tie.After-word-from)
+    → Inside (length (c .before .before .before .before .args .memory .now))
+    (wordFrom (c .before .before .before .before .args .at) (c .before .before .before .before .args .broadcast) (c .before .before .before .before .args .j))
+known c =
+    inside (isSet (c .before .before .before .before .args .on)) _ _ _ _ (c .before .before .before .before .good .1 .0 .0)
+    (c .before .before .before .before .pre .0) (c .before .before .before .before .pre .1)
+    (sym (c .before .before .has .ensures) ∙ c .before .if1 .taken)
+
+half-at-requires : tie.Need-half-at-requires
+half-at-requires c κs = rw (c .word-from .ensures) (known c .below)
+
+-- src/sources.rt:56:9
+returns : tie.Need-returns
+returns c = rw (← c .before .before .before .has .ensures, c .before .before .if1 .taken, known (c .before) .plain, ← c .before .word-from .ensures) (c .half-at .ensures)
+
+-- src/sources.rt:51:1
+returns-2 : tie.Need-returns-2
+returns-2 c = rw (← c .before .has .ensures, c .if1 .left)
+
+pub memory-half-spec : {M : Type 1} → statement M
+memory-half-spec =
+    tie.close (tie.spec has-requires word-from-requires half-at-requires returns returns-2)

@@ -1,0 +1,124 @@
+// Addresses: sums modulo 2 to the 64.
+ghost use mathlib.Core.Path.{_≡_};
+ghost use Prim.Native.Nat.{_%_, _^_, _<_};
+ghost use mathlib.Core.Bool.{_&&_};
+ghost use lib.Dec.{leb};
+ghost use lib.ListN.{length};
+ghost use Rattle.evex.specs.Bits.{isSet};
+ghost use Rattle.evex.proofs.Bounds.{BaseIn, IndexIn, OperandIn};
+ghost use Rattle.half.specs.Operations.{some};
+ghost use Rattle.machine.specs.Memory.{wrapped};
+ghost use Rattle.step.specs.Work.{baseFrom, indexFrom, addressFrom, firstWord, wordFrom, wordPlaces, wordsOutside, outside};
+use super::mask::has;
+use evex::Address;
+use evex::Base;
+use evex::Index;
+use evex::Operand;
+
+// A signed number modulo 2 to the 64.
+fn wrapped(d: i32) -> u64
+    ensures { λ r. ⌜ r ≡ wrapped d ⌝ }
+{
+    if d < 0 {
+        u64::MAX - ((-1 - d) as u64)
+    } else {
+        d as u64
+    }
+}
+
+fn base_value(base: Base, general: &[u64; 16], next: u64) -> u64
+    requires { ⌜ BaseIn base ⌝ }
+    ensures { λ r. ⌜ r ≡ baseFrom (now (general .entry)) next base ⌝ }
+{
+    match base {
+        Base::None => 0,
+        Base::General(n) => general[n],
+        Base::NextInstruction => next,
+    }
+}
+
+fn index_value(index: Index, general: &[u64; 16]) -> u64
+    requires { ⌜ IndexIn index ⌝ }
+    ensures { λ r. ⌜ r ≡ indexFrom (now (general .entry)) index % 2 ^ 64 ⌝ }
+{
+    match index {
+        Index::None => 0,
+        Index::Scaled { number, scale } => general[number] << scale,
+    }
+}
+
+fn address(a: Address, general: &[u64; 16], next: u64) -> u64
+    requires { ⌜ BaseIn (a .base) × IndexIn (a .index) ⌝ }
+    ensures { λ r. ⌜ r ≡ addressFrom (now (general .entry)) next a ⌝ }
+{
+    let base = a.base;
+    let index = a.index;
+    let sum = std::num::wrapping_add_u64(
+        base_value(base, general, next),
+        index_value(index, general),
+    );
+    std::num::wrapping_add_u64(sum, wrapped(a.displacement))
+}
+
+// Where the second source's first word begins; 0 where it is no memory.
+pub(crate) fn first_word(second: Operand, general: &[u64; 16], next: u64) -> u64
+    requires { ⌜ OperandIn second ⌝ }
+    ensures { λ r. ⌜ r ≡ firstWord (now (general .entry)) next second ⌝ }
+{
+    match second {
+        Operand::Register(_) => 0,
+        Operand::Memory {
+            address: a,
+            broadcast: _,
+        } => address(a, general, next),
+    }
+}
+
+// Where lane j's word begins. With broadcast all lanes read the first.
+pub(crate) fn word_from(at: u64, broadcast: bool, j: usize) -> u64
+    requires { ⌜ j < 32 ⌝ }
+    ensures { λ r. ⌜ r ≡ wordFrom at broadcast j ⌝ }
+{
+    if broadcast {
+        return at;
+    }
+    std::num::wrapping_add_u64(at, (2 * j) as u64)
+}
+
+// One of a word's two bytes is outside a memory of this length.
+fn word_outside(length: u64, at: u64) -> bool
+    ensures { λ r. ⌜ r ≡ some (λ a. leb length a) (wordPlaces at) ⌝ }
+{
+    (length <= at) | (length <= std::num::wrapping_add_u64(at, 1))
+}
+
+// Lane j is on, and reads outside.
+fn lane_outside(on: u64, length: u64, at: u64, broadcast: bool, j: usize) -> bool
+    requires { ⌜ j < 32 ⌝ }
+    ensures { λ r. ⌜ r ≡ (isSet on j && some (λ a. leb length a) (wordPlaces (wordFrom at broadcast j))) ⌝ }
+{
+    has(on, j) & word_outside(length, word_from(at, broadcast, j))
+}
+
+fn words_outside(on: u64, length: u64, at: u64, broadcast: bool) -> bool
+    ensures { λ r. ⌜ r ≡ wordsOutside (isSet on) length at broadcast ⌝ }
+{
+    let mut found = false;
+    for j in 0..32 {
+        found = found | lane_outside(on, length, at, broadcast, j);
+    }
+    found
+}
+
+// A lane that is on needs an address outside memory.
+pub(crate) fn is_outside(on: u64, length: u64, at: u64, second: Operand) -> bool
+    ensures { λ r. ⌜ r ≡ outside (isSet on) length at second ⌝ }
+{
+    match second {
+        Operand::Register(_) => false,
+        Operand::Memory {
+            address: _,
+            broadcast,
+        } => words_outside(on, length, at, broadcast),
+    }
+}

@@ -1,0 +1,79 @@
+// The control word (MXCSR): flags in bits 0 to 5, their masks in 7 to 12, the rounding mode in 13 and 14.
+ghost use mathlib.Core.Path.{_≡_};
+ghost use mathlib.Core.Bool.{not};
+ghost use lib.Bits.{bitAnd, bitOr};
+ghost use lib.Dec.{eqb};
+ghost use Rattle.evex.specs.Bits.{bits};
+ghost use Rattle.machine.specs.State.{modeNumber, unmaskedFlags};
+ghost use Rattle.machine.specs.Lanes.{roundingMode, unmasked, recorded};
+use evex::Rounding;
+
+pub struct Control {
+    pub bits: u32,
+}
+
+impl Control {
+    fn mode(self) -> u32
+        ensures { λ r. ⌜ r ≡ modeNumber (self .bits) ⌝ }
+    {
+        (self.bits >> 13) % 4
+    }
+
+    // The exceptions whose mask bit is 0, as flags.
+    fn unmasked_flags(self) -> u8
+        ensures { λ r. ⌜ r ≡ unmaskedFlags (self .bits) ⌝ }
+    {
+        63 - ((self.bits >> 7) % 64) as u8
+    }
+
+    fn with_flags(self, flags: u8) -> Control
+        ensures { λ r. ⌜ r ≡ record { bits = bitOr (self .bits) flags } ⌝ }
+    {
+        Control {
+            bits: self.bits | (flags as u32),
+        }
+    }
+
+    // Embedded rounding gives its own mode, counts all exceptions as masked, and records none.
+
+    pub(crate) fn rounding_mode(self, rounding: Rounding) -> u32
+        ensures { λ r. ⌜ r ≡ roundingMode rounding (self .bits) ⌝ }
+    {
+        match rounding {
+            Rounding::Control => self.mode(),
+            Rounding::Embedded(mode) => mode as u32,
+        }
+    }
+
+    fn unmasked(self, rounding: Rounding) -> u8
+        ensures { λ r. ⌜ r ≡ unmasked rounding (self .bits) ⌝ }
+    {
+        match rounding {
+            Rounding::Control => self.unmasked_flags(),
+            Rounding::Embedded(_) => 0,
+        }
+    }
+
+    // Whether UE is unmasked: 1, or 0.
+    pub(crate) fn underflow(self, rounding: Rounding) -> u32
+        ensures { λ r. ⌜ r ≡ bits (unmasked rounding (self .bits)) 4 1 ⌝ }
+    {
+        ((self.unmasked(rounding) >> 4) % 2) as u32
+    }
+
+    pub(crate) fn recorded(self, rounding: Rounding, flags: u8) -> Control
+        ensures { λ r. ⌜ r ≡ record { bits = recorded rounding (self .bits) flags } ⌝ }
+    {
+        match rounding {
+            Rounding::Control => self.with_flags(flags),
+            Rounding::Embedded(_) => self,
+        }
+    }
+
+    // One of the flags is of an exception that is not masked.
+    pub(crate) fn raises(self, rounding: Rounding, flags: u8) -> bool
+        ensures { λ r. ⌜ r ≡ not (eqb (bitAnd flags (unmasked rounding (self .bits))) 0) ⌝ }
+    {
+        flags & self.unmasked(rounding) != 0
+    }
+}

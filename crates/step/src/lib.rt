@@ -1,0 +1,131 @@
+// One step of the machine, in the order of document 01.
+ghost use mathlib.Core.Path.{_≡_};
+ghost use lib.ListN.{length};
+ghost use Rattle.evex.specs.Bits.{isSet};
+ghost use Rattle.evex.proofs.Bounds.{Bounds};
+ghost use Rattle.machine.specs.Step.{step};
+ghost use Rattle.step.specs.Stepped.{stateOf, steppedOf};
+ghost use Rattle.step.specs.Work.{leftOf, finished, executed, refusalNumber};
+use address::first_word;
+use address::is_outside;
+use control::Control;
+use evex::Decoded;
+use evex::Instruction;
+use lanes::Results;
+use lanes::all_lanes;
+use machine::Answer;
+use mask::lanes_kept;
+use mask::lanes_on;
+use sources::first_halves;
+use sources::register_halves;
+use sources::second_halves;
+use store::store;
+
+mod address;
+mod control;
+mod lanes;
+mod mask;
+mod sources;
+mod store;
+
+fn refused(number: u32) -> Answer
+    ensures { λ r. ⌜ r ≡ record { number = number; length = 0 } ⌝ }
+{
+    Answer { number, length: 0 }
+}
+
+fn refusal_number(d: Decoded) -> u32
+    ensures { λ r. ⌜ r ≡ refusalNumber d ⌝ }
+{
+    match d {
+        Decoded::Fields(_) => 0,
+        Decoded::Refused(r) => r.number(),
+    }
+}
+
+// The lanes are computed: an unmasked exception, or the destination written and the pointer moved.
+fn finish(
+    vectors: &mut [u8],
+    control: &mut u32,
+    pointer: &mut u64,
+    i: Instruction,
+    on: u64,
+    next: u64,
+    results: Results,
+) -> Answer
+    requires { ⌜ (length (now vectors) ≡ 2048) × Bounds i ⌝ }
+    ensures { λ r. ⌜ leftOf r (now (vectors .exit)) (now (control .exit)) (now (pointer .exit)) ≡ finished (isSet on) i results next (now (vectors .entry)) (now (control .entry)) (now (pointer .entry)) ⌝ }
+{
+    let word = Control { bits: *control };
+    let rounding = i.rounding;
+    let halves = results.halves;
+    let flagged = word.recorded(rounding, results.flags);
+    *control = flagged.bits;
+    if word.raises(rounding, results.flags) {
+        return refused(8);
+    }
+    let kept = lanes_kept(on, i.lanes, i.zeroing);
+    store(vectors, i.destination, kept, halves);
+    *pointer = next;
+    Answer {
+        number: 0,
+        length: i.size as u32,
+    }
+}
+
+// A decoded instruction: all sources are gathered, and all lanes computed, before anything is written.
+fn execute(
+    vectors: &mut [u8],
+    masks: &[u64; 8],
+    general: &[u64; 16],
+    control: &mut u32,
+    pointer: &mut u64,
+    memory: &[u8],
+    i: Instruction,
+) -> Answer
+    requires { ⌜ (length (now vectors) ≡ 2048) × Bounds i ⌝ }
+    ensures { λ r. ⌜ steppedOf r (now (vectors .exit)) (now (masks .entry)) (now (general .entry)) (now (control .exit)) (now (pointer .exit)) ≡ executed (now (memory .entry)) (stateOf (now (vectors .entry)) (now (masks .entry)) (now (general .entry)) (now (control .entry)) (now (pointer .entry))) i ⌝ }
+{
+    let operation = i.operation;
+    let rounding = i.rounding;
+    let first = i.first;
+    let second = i.second;
+    let next = std::num::wrapping_add_u64(*pointer, i.size as u64);
+    let on = lanes_on(masks, i.mask, i.lanes);
+    let at = first_word(second, general, next);
+    if is_outside(on, memory.len() as u64, at, second) {
+        return refused(7);
+    }
+    let d = register_halves(on, vectors, i.destination);
+    let f = first_halves(on, vectors, first);
+    let x = second_halves(on, vectors, memory, at, second);
+    let word = Control { bits: *control };
+    let mode = word.rounding_mode(rounding);
+    let results = all_lanes(on, operation, mode, word.underflow(rounding), d, f, x);
+    finish(vectors, control, pointer, i, on, next, results)
+}
+
+// Every step returns the number of document 01 and the instruction's length, 0 unless the number is 0.
+pub fn step(
+    vectors: &mut [u8],
+    masks: &mut [u64; 8],
+    general: &[u64; 16],
+    control: &mut u32,
+    pointer: &mut u64,
+    code: &[u8],
+    memory: &[u8],
+) -> Answer
+    ensures { λ r. ⌜ steppedOf r (now (vectors .exit)) (now (masks .exit)) (now (general .entry)) (now (control .exit)) (now (pointer .exit)) ≡ step (now (memory .entry)) (stateOf (now (vectors .entry)) (now (masks .entry)) (now (general .entry)) (now (control .entry)) (now (pointer .entry))) (now (code .entry)) ⌝ }
+{
+    if vectors.len() != 2048 {
+        return refused(1);
+    }
+    if 0x10000 <= *control {
+        return refused(2);
+    }
+    let decoded = evex::decode(code);
+    let Decoded::Fields(i) = decoded else {
+        return refused(refusal_number(decoded));
+    };
+    execute(vectors, masks, general, control, pointer, memory, i)
+}
