@@ -206,12 +206,12 @@ static bool compact(scorer *by, const uint8_t *log, const uint8_t *query, score 
 
 static void print_view(const char *name, const score *scores, const bool *cut) {
     size_t kept = 0;
-    printf("%s\n    record   first lanes of the score   \n", name);
+    printf("%s\n    record   first lanes of the score\n", name);
     for (size_t r = 0; r < RECORDS; r++) {
         const uint8_t *b = scores[r].bytes;
         kept += !cut[r];
-        printf("    %6zu   %02X%02X %02X%02X %02X%02X %02X%02X        %s\n", r, b[1], b[0], b[3], b[2], b[5], b[4], b[7], b[6],
-               cut[r] ? "cut" : "");
+        printf("    %6zu   %02X%02X %02X%02X %02X%02X %02X%02X%s\n", r, b[1], b[0], b[3], b[2], b[5], b[4], b[7], b[6],
+               cut[r] ? "   cut" : "");
     }
     printf("    %zu of %d records kept\n\n", kept, RECORDS);
 }
@@ -246,12 +246,12 @@ static bool audit(const uint8_t *log, const uint8_t *query) {
     printf("\nauditor, precision exception unmasked, record 0\n");
     for (size_t i = 0; i < sizeof LISTING / sizeof LISTING[0]; i++) {
         if (LISTING[i].offset == at) {
-            printf("    stopped at offset %zu     %s\n", at, LISTING[i].text);
+            printf("    stopped at    offset %zu, %s\n", at, LISTING[i].text);
         }
     }
-    printf("    answer                 %" PRIu32 "\n    flags                 ", answer.number);
+    printf("    answer        %" PRIu32 "\n    flags        ", answer.number);
     print_flags(m.control);
-    printf("    destination            %s\n", untouched ? "as before" : "CHANGED");
+    printf("    destination   %s\n", untouched ? "as before" : "CHANGED");
     return stopped && untouched && (m.control & RIDGECROOK_PE) != 0;
 }
 

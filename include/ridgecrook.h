@@ -1,5 +1,6 @@
 /*
- * Ridgecrook: the half arithmetic (IEEE 754 binary16) of AVX512-FP16, for C.
+ * Ridgecrook for C: an interpreter of AVX512-FP16 machine code, one instruction a call, and the
+ * half arithmetic (IEEE 754 binary16) below it.
  *
  * Link with libridgecrook.a, which `rt staticlib ridgecrook` writes to target/staticlib/. The
  * library needs nothing else, and is compiled for plain x86-64: no processor with AVX512-FP16 is
@@ -8,13 +9,15 @@
  * A half is passed as the 16 bits that it consists of: 1 sign, 5 exponent and 10 fraction bits,
  * the sign highest. 1.0 is 0x3C00.
  *
- * All functions below are pure: the result depends on the arguments alone, nothing is kept, and
- * nothing is read or written elsewhere (neither the processor's control word nor errno). They may
- * be called from any thread at any time. Every value of every argument is allowed.
+ * The library keeps no state: what a function does depends on its arguments and on what they
+ * point to, and it writes nowhere but where its description says (neither the processor's control
+ * word nor errno, for example). Every function may be called from any thread at any time, as long
+ * as no other thread writes what this call was lent, or reads what this call writes.
  */
 #ifndef RIDGECROOK_H
 #define RIDGECROOK_H
 
+#include <stddef.h>
 #include <stdint.h>
 
 #ifdef __cplusplus
@@ -22,8 +25,8 @@ extern "C" {
 #endif
 
 /*
- * Answers. The library has one table of answer numbers. The arithmetic gives only 0 and 9; the
- * other numbers belong to functions that execute, save and load machine state.
+ * Answers. The library has one table of answer numbers. The arithmetic gives only 0 and 9, a step
+ * 0 to 8.
  *
  *    0  done
  *    1  the vector file has not 2,048 bytes, or the target of a save has not 2,257
@@ -31,13 +34,21 @@ extern "C" {
  *    3  the bytes end inside the instruction
  *    4  byte 0 is not 0x62, or the instruction is not among those carried out
  *    5  reserved encoding
- *    6  the instruction is longer than 15 bytes
+ *    6  the instruction is longer than 15 bytes (which no instruction carried out now is)
  *    7  an address that is needed lies outside memory
  *    8  unmasked numeric exception
  *    9  rounding mode above 3: the half is 0x0000 and the flags are 0
  *   10  the saved form is wrong
  */
 #define RIDGECROOK_DONE 0
+#define RIDGECROOK_BAD_SIZE 1
+#define RIDGECROOK_BAD_CONTROL 2
+#define RIDGECROOK_CUT_SHORT 3
+#define RIDGECROOK_NOT_LISTED 4
+#define RIDGECROOK_RESERVED 5
+#define RIDGECROOK_TOO_LONG 6
+#define RIDGECROOK_OUTSIDE_MEMORY 7
+#define RIDGECROOK_EXCEPTION 8
 #define RIDGECROOK_BAD_MODE 9
 
 /* Rounding modes, numbered as in bits 13 and 14 of the control word (MXCSR). */
@@ -63,7 +74,7 @@ typedef struct {
 } ridgecrook_rounded;
 
 /*
- * The six operations. Common to all:
+ * The six operations: pure functions that take every value of every argument. Common to all:
  *
  *   a, b, c             The operands.
  *   mode                A rounding mode, 0 to 3. Any other number is refused: the answer is
@@ -106,6 +117,73 @@ ridgecrook_rounded ridgecrook_square_root(uint16_t a, uint32_t mode, uint32_t un
 /* a * b + c, the product exact and the sum rounded once */
 ridgecrook_rounded ridgecrook_fused_multiply_add(uint16_t a, uint16_t b, uint16_t c, uint32_t mode,
                                                  uint32_t underflow_unmasked);
+
+/* The state of a machine, as a step takes it. */
+#define RIDGECROOK_VECTORS_SIZE 2048    /* the vector file: 32 registers of 64 bytes */
+#define RIDGECROOK_REGISTER_SIZE 64     /* one vector register: 32 lanes of 2 bytes */
+#define RIDGECROOK_MASKS 8              /* the mask registers k0 to k7 */
+#define RIDGECROOK_GENERAL 16           /* the general registers RAX, RCX, RDX, RBX, RSP, RBP, RSI,
+                                           RDI, R8 to R15, by their numbers in the encoding */
+#define RIDGECROOK_CONTROL_RESET 0x1F80 /* the control word (MXCSR) of a processor after reset: no
+                                           flag, every exception masked, rounding to nearest */
+
+/* What a step hands back: 8 bytes, without padding. */
+typedef struct {
+    uint32_t number; /* RIDGECROOK_DONE to RIDGECROOK_EXCEPTION, see the table of answers */
+    uint32_t length; /* the instruction's length in bytes; 0 unless number is RIDGECROOK_DONE */
+} ridgecrook_answer;
+
+/*
+ * Carries out one instruction, the one that `code` begins with: a packed VADDPH, VSUBPH, VMULPH,
+ * VDIVPH, VSQRTPH, VFMADD132PH, VFMADD213PH or VFMADD231PH, with registers or memory, in 64-bit
+ * mode.
+ *
+ *   vectors, vectors_length  The vector file, register 0 first, lane 0 of a register in its lowest
+ *                            two bytes, little-endian. A length other than
+ *                            RIDGECROOK_VECTORS_SIZE is refused.
+ *   masks                    k0 to k7. No instruction of today writes one.
+ *   general                  The general registers; only read.
+ *   control                  The control word, laid out as MXCSR: flags in bits 0 to 5, their
+ *                            masks in 7 to 12, the rounding mode in 13 and 14. Bits 6 and 15 (DAZ
+ *                            and FZ) have no effect on halves. A word with a bit above 15 is
+ *                            refused.
+ *   pointer                  The address of the instruction, which addresses relative to the next
+ *                            instruction count from.
+ *   code, code_length        The bytes from the instruction on; only read. Bytes after the
+ *                            instruction are not looked at, so the rest of a program may be lent,
+ *                            and 15 bytes are always enough.
+ *   memory, memory_length    What stands at the addresses 0 to memory_length - 1; only read. All
+ *                            other addresses lie outside memory.
+ *
+ * What each answer leaves:
+ *
+ *   RIDGECROOK_DONE       The destination register is written (lanes that are off keep their half,
+ *                         or become 0 with zeroing; bytes above the vector length become 0), the
+ *                         flags of the lanes that are on are added to *control, except under
+ *                         embedded rounding, and *pointer has moved by the length, modulo 2 to the
+ *                         64. All else is as it was.
+ *   RIDGECROOK_EXCEPTION  A lane that is on raised an exception whose mask bit is 0; embedded
+ *                         rounding counts all as masked. The flags of all lanes that are on are
+ *                         added to *control. All else is as it was. Flags that *control had before
+ *                         cause nothing.
+ *   every other number    All is as it was.
+ *
+ * If an instruction gives cause for several answers, the first of these is given: 1; 2; no bytes
+ * (3); byte 0 (4); fewer than six bytes (3); byte 1 bit 3 set or byte 2 bit 2 clear (5); not in the
+ * list above (4); length bits 11 without embedded rounding, zeroing without a mask, or VSQRTPH with
+ * a first source (5); missing SIB or displacement bytes (3); 6; 7; 8.
+ *
+ * The pointers. `vectors`, `masks`, `control` and `pointer` are written: what one of them points
+ * to, at its whole length, may overlap nothing else that is lent to the call. `general`, `code` and
+ * `memory` are only read and may overlap one another, but none of those four. `code` may be null
+ * where code_length is 0, and `memory` where memory_length is 0; no other pointer may be null.
+ * `masks` points to RIDGECROOK_MASKS numbers and `general` to RIDGECROOK_GENERAL, aligned as
+ * uint64_t is; bytes need no alignment.
+ */
+ridgecrook_answer ridgecrook_step(uint8_t *vectors, size_t vectors_length, uint64_t masks[8],
+                                  const uint64_t general[16], uint32_t *control, uint64_t *pointer,
+                                  const uint8_t *code, size_t code_length, const uint8_t *memory,
+                                  size_t memory_length);
 
 #ifdef __cplusplus
 }

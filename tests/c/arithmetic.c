@@ -1,21 +1,10 @@
 /* The arithmetic as a C engineer calls it: the header, the archive, rows for each function. */
+#include "check.h"
 #include "ridgecrook.h"
 
 #include <stddef.h>
 #include <stdint.h>
 #include <stdio.h>
-
-static int passed;
-static int failed;
-
-static void check(int holds, const char *what) {
-    if (holds) {
-        passed++;
-    } else {
-        failed++;
-        printf("failed: %s\n", what);
-    }
-}
 
 static void check_layout(void) {
     check(sizeof(ridgecrook_rounded) == 4, "a ridgecrook_rounded has 4 bytes");
@@ -147,6 +136,5 @@ int main(void) {
     for (size_t i = 0; i < sizeof ROWS / sizeof ROWS[0]; i++) {
         check_row(&ROWS[i]);
     }
-    printf("%d passed, %d failed\n", passed, failed);
-    return failed != 0;
+    return finish();
 }

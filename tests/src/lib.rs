@@ -1,9 +1,14 @@
 //! The outside evidence for Ridgecrook: an independent second program, the library through its
 //! C interface, and what compares the two.
 
+pub mod assemble;
 pub mod case;
 pub mod compare;
 pub mod corners;
+pub mod coverage;
 pub mod library;
+pub mod machine;
 pub mod random;
+pub mod random_step;
 pub mod second;
+pub mod step_line;

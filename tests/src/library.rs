@@ -1,6 +1,7 @@
 //! The library through its C interface (`include/ridgecrook.h`).
 
 use crate::case::{Arithmetic, Case, Outcome};
+use crate::machine::{Answer, Machine, Step, StepOutcome};
 
 extern "C" {
     fn ridgecrook_add(a: u16, b: u16, mode: u32, underflow_unmasked: u32) -> Outcome;
@@ -15,10 +16,22 @@ extern "C" {
         mode: u32,
         underflow_unmasked: u32,
     ) -> Outcome;
+    fn ridgecrook_step(
+        vectors: *mut u8,
+        vectors_length: usize,
+        masks: *mut u64,
+        general: *const u64,
+        control: *mut u32,
+        pointer: *mut u64,
+        code: *const u8,
+        code_length: usize,
+        memory: *const u8,
+        memory_length: usize,
+    ) -> Answer;
 }
 
-// Safety of the calls below: the functions take numbers alone, accept every number and keep no
-// state.
+// Safety of the calls of the arithmetic: the functions take numbers alone, accept every number and
+// keep no state.
 
 #[inline]
 pub fn add(a: u16, b: u16, mode: u32, underflow_unmasked: u32) -> Outcome {
@@ -62,4 +75,33 @@ pub const LIBRARY: Arithmetic = Arithmetic {
 /// What the library answers to a case.
 pub fn answer(case: &Case) -> Outcome {
     LIBRARY.answer(case)
+}
+
+/// One step. The general registers are lent by a pointer that may write, so that a library that
+/// does is found out.
+#[inline]
+pub fn step(machine: &mut Machine, code: &[u8], memory: &[u8]) -> Answer {
+    // Safety: each pointer holds for the length passed with it or that the header demands, and the
+    // borrows show that nothing that is written overlaps anything else.
+    unsafe {
+        ridgecrook_step(
+            machine.vectors.as_mut_ptr(),
+            machine.vectors.len(),
+            machine.masks.as_mut_ptr(),
+            machine.general.as_mut_ptr().cast_const(),
+            &mut machine.control,
+            &mut machine.pointer,
+            code.as_ptr(),
+            code.len(),
+            memory.as_ptr(),
+            memory.len(),
+        )
+    }
+}
+
+/// What the library answers to a step and leaves of it.
+pub fn step_outcome(before: &Step) -> StepOutcome {
+    let mut after = before.clone();
+    let answer = step(&mut after.machine, &after.code, &after.memory);
+    StepOutcome { answer, after }
 }

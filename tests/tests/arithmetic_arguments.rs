@@ -49,7 +49,7 @@ fn check_refused(case: &Case) {
         number: 9,
     };
     for outcome in [library::answer(case), second::answer(case)] {
-        assert!(outcome == refused, "{}", failure(case, outcome, refused));
+        assert!(outcome == refused, "{}", failure(case, &outcome, &refused));
     }
 }
 

@@ -5,7 +5,7 @@
 //! operation.
 
 use ridgecrook_tests::case::{Case, Operation, Outcome, DE, IE, OE, PE, UE, ZE};
-use ridgecrook_tests::compare::Comparison;
+use ridgecrook_tests::compare::{setting, Comparison};
 use ridgecrook_tests::random::{self, Random};
 use ridgecrook_tests::{corners, library, second};
 
@@ -71,16 +71,6 @@ fn fused_multiply_add_on_corners() {
         }
     }
     comparison.finish((halves.len().pow(3) * 8) as u64);
-}
-
-/// A number that the environment may set.
-fn setting(name: &str, otherwise: u64) -> u64 {
-    match std::env::var(name) {
-        Ok(text) => text
-            .parse()
-            .unwrap_or_else(|_| panic!("{name}: {text} is not a whole number")),
-        Err(_) => otherwise,
-    }
 }
 
 fn random_cases(operation: Operation) {

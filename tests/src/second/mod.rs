@@ -1,16 +1,22 @@
 //! The independent second program: the half arithmetic of document 01 ('Rounding and flags') in
-//! plain whole numbers, slow and obvious. It shares no code with the library.
+//! plain whole numbers, and the machine above it, slow and obvious. It shares no code with the
+//! library.
 //!
-//! `operations` has rules 1 to 3 and the exact values, `rounding` has rule 4.
+//! `operations` has rules 1 to 3 and the exact values, `rounding` has rule 4; `encoding` has the
+//! bytes of an instruction, `step` all else of a step.
 
+pub mod encoding;
 mod exact;
 mod half;
 mod operations;
 mod rounding;
+pub mod step;
 
 use crate::case::{Case, Outcome};
 use operations::Stage;
 use rounding::Mode;
+
+pub use step::step;
 
 /// What document 01 answers to a case.
 pub fn answer(case: &Case) -> Outcome {

@@ -1,0 +1,95 @@
+//! The rows of the arithmetic: each operation on random halves and on corners.
+
+use crate::{time, Pass, Row};
+use ridgecrook_bench::plain;
+use ridgecrook_tests::case::{Case, Operation, Outcome};
+use ridgecrook_tests::random::Random;
+use ridgecrook_tests::{corners, library};
+use std::hint::black_box;
+use std::rc::Rc;
+
+/// So many cases that the processor does not learn their branches by heart.
+const CASES: usize = 65_536;
+
+fn cases(random: &mut Random, half: impl Fn(&mut Random) -> u16) -> Rc<[Case]> {
+    let case = |_| Case {
+        // The caller chooses the operation; it takes as many operands as it has.
+        operation: Operation::FusedMultiplyAdd,
+        mode: random.within(0, 3) as u32,
+        underflow_unmasked: random.within(0, 1) as u32,
+        operands: [half(random), half(random), half(random)],
+    };
+    (0..CASES).map(case).collect()
+}
+
+/// One implementation of an operation, made into a pass over some cases.
+type Implementation = Box<dyn Fn(Rc<[Case]>) -> Pass>;
+
+fn implementation(call: impl Fn(&Case) -> Outcome + Copy + 'static) -> Implementation {
+    Box::new(move |cases| {
+        Box::new(move || {
+            let cases = black_box(&cases);
+            time(cases.len(), |place| {
+                let outcome = call(&cases[place]);
+                u64::from(outcome.flags) << 16 | u64::from(outcome.half)
+            })
+        })
+    })
+}
+
+/// A function of one, two or three operands as a function of a case.
+fn one(f: impl Fn(u16, u32, u32) -> Outcome + Copy + 'static) -> Implementation {
+    implementation(move |case| f(case.operands[0], case.mode, case.underflow_unmasked))
+}
+
+fn two(f: impl Fn(u16, u16, u32, u32) -> Outcome + Copy + 'static) -> Implementation {
+    implementation(move |case| {
+        let [a, b, _] = case.operands;
+        f(a, b, case.mode, case.underflow_unmasked)
+    })
+}
+
+fn three(f: impl Fn(u16, u16, u16, u32, u32) -> Outcome + Copy + 'static) -> Implementation {
+    implementation(move |case| {
+        let [a, b, c] = case.operands;
+        f(a, b, c, case.mode, case.underflow_unmasked)
+    })
+}
+
+fn operations() -> [(&'static str, [Implementation; 2]); 6] {
+    use library as l;
+    use plain as p;
+    [
+        ("add", [two(l::add), two(p::add)]),
+        ("subtract", [two(l::subtract), two(p::subtract)]),
+        ("multiply", [two(l::multiply), two(p::multiply)]),
+        ("divide", [two(l::divide), two(p::divide)]),
+        ("square_root", [one(l::square_root), one(p::square_root)]),
+        (
+            "fused_multiply_add",
+            [three(l::fused_multiply_add), three(p::fused_multiply_add)],
+        ),
+    ]
+}
+
+fn kinds() -> [(&'static str, Rc<[Case]>); 2] {
+    let mut random = Random::seeded(5);
+    let halves = corners::all();
+    let corner = |random: &mut Random| random.one_of(&halves);
+    [
+        ("random halves", cases(&mut random, Random::half)),
+        ("corners", cases(&mut random, corner)),
+    ]
+}
+
+pub fn rows() -> Vec<Row> {
+    let kinds = kinds();
+    let mut rows = Vec::new();
+    for (name, both) in operations() {
+        for (kind, cases) in &kinds {
+            let passes = both.each_ref().map(|pass_over| pass_over(cases.clone()));
+            rows.push(Row::of(name, kind, passes));
+        }
+    }
+    rows
+}

@@ -1,0 +1,130 @@
+//! The rows of steps: each instruction with 32 lanes, and how the time goes with the lanes that are
+//! on.
+
+use crate::{time, Row, Timed};
+use ridgecrook_bench::plain_step;
+use ridgecrook_tests::assemble::{Encoding, LANES_16, LANES_32, LANES_8};
+use ridgecrook_tests::library;
+use ridgecrook_tests::machine::{Answer, Machine, ALL_MASKED, REGISTER_SIZE};
+use ridgecrook_tests::random::Random;
+use ridgecrook_tests::second::encoding::{Listed, LIST};
+
+/// A million steps of each row in all rounds together.
+const STEPS: usize = 1_000_000;
+
+/// So many instructions and states of the destination, taken by turns.
+const CODES: usize = 1024;
+
+pub const SETTING: &str = "steps: finite random lanes, the mode from the
+control word, all four mixed, exceptions masked. A million steps a row. Before each step, and timed
+with it, the destination register is filled with random finite lanes; no other buffer is cleared.";
+
+type Step = fn(&mut Machine, &[u8], &[u8]) -> Answer;
+
+/// What a row executes.
+struct Work {
+    codes: Vec<Vec<u8>>,
+    destinations: Vec<[u8; REGISTER_SIZE]>,
+    machine: Machine,
+    memory: Vec<u8>,
+}
+
+fn finite(random: &mut Random) -> [u8; 2] {
+    let half = loop {
+        let half = random.half();
+        if half & 0x7C00 != 0x7C00 {
+            break half;
+        }
+    };
+    half.to_le_bytes()
+}
+
+fn finite_bytes(random: &mut Random, halves: usize) -> Vec<u8> {
+    (0..halves).flat_map(|_| finite(random)).collect()
+}
+
+impl Work {
+    /// Instructions with destination 0 and sources drawn from the other registers, or memory.
+    fn of(change: impl Fn(&mut Encoding), listed: &Listed, mask: u64) -> Work {
+        let mut random = Random::seeded(6);
+        let mut codes = Vec::new();
+        for _ in 0..CODES {
+            let [first, second] = [0; 2].map(|_| random.within(1, 31) as u8);
+            let first = if listed.operands.len() > 1 { first } else { 0 };
+            let mut encoding = Encoding::registers(listed, 0, first, second);
+            change(&mut encoding);
+            codes.push(encoding.bytes());
+        }
+        let mut machine = Machine::blank();
+        machine.vectors = finite_bytes(&mut random, 1024);
+        machine.masks[1] = mask;
+        let filled = |_| finite_bytes(&mut random, 32).try_into().expect("64 bytes");
+        Work {
+            codes,
+            destinations: (0..CODES).map(filled).collect(),
+            machine,
+            memory: finite_bytes(&mut Random::seeded(8), 2048),
+        }
+    }
+
+    fn pass(&self, step: Step, calls: usize) -> Timed {
+        let mut machine = self.machine.clone();
+        time(calls, |place| {
+            let turn = place % CODES;
+            machine.vectors[..REGISTER_SIZE].copy_from_slice(&self.destinations[turn]);
+            machine.control = ALL_MASKED | (turn as u32 & 3) << 13;
+            // An even address, for memory forms.
+            machine.general[3] = 2 * turn as u64;
+            let answer = step(&mut machine, &self.codes[turn], &self.memory);
+            let words = machine.vectors[..REGISTER_SIZE].chunks_exact(8);
+            let sum = words.fold(0, |sum: u64, word| {
+                sum.wrapping_add(u64::from_le_bytes(word.try_into().expect("8 bytes")))
+            });
+            assert_eq!(answer.number, 0);
+            sum ^ u64::from(machine.control) << 32
+        })
+    }
+}
+
+fn row(listed: &Listed, kind: &str, calls: usize, mask: u64, change: fn(&mut Encoding)) -> Row {
+    let work = || Work::of(change, listed, mask);
+    let (by_library, by_plain) = (work(), work());
+    Row::of(
+        listed.name,
+        kind,
+        [
+            Box::new(move || by_library.pass(library::step, calls)),
+            Box::new(move || by_plain.pass(plain_step::step, calls)),
+        ],
+    )
+}
+
+/// A name, mask register k1, and what the row changes of a register form with 32 lanes.
+type LanesOn = (&'static str, u64, fn(&mut Encoding));
+
+const LANES_ON: [LanesOn; 9] = [
+    ("8 lanes", 0, |e| e.length = LANES_8),
+    ("16 lanes", 0, |e| e.length = LANES_16),
+    ("32 lanes, mask of 0", 0, |e| e.mask = 1),
+    ("32 lanes, mask of 1", 1 << 9, |e| e.mask = 1),
+    ("32 lanes, mask of 4", 0x8001_0401, |e| e.mask = 1),
+    ("32 lanes, mask of 16", 0x9C5A_A563, |e| e.mask = 1),
+    ("32 lanes, mask of 32", u64::MAX, |e| e.mask = 1),
+    ("32 lanes, memory", 0, |e| (e.mode, e.rm, e.b) = (0, 3, 0)),
+    ("32 lanes, broadcast", 0, |e| {
+        (e.mode, e.rm, e.b, e.extra, e.length) = (0, 3, 0, 1, LANES_32);
+    }),
+];
+
+pub fn rows(rounds: usize) -> Vec<Row> {
+    let calls = STEPS.div_ceil(rounds);
+    let mut rows = Vec::new();
+    for listed in &LIST {
+        rows.push(row(listed, "32 lanes", calls, 0, |_| ()));
+    }
+    let multiply = &LIST[1];
+    for (kind, mask, change) in LANES_ON {
+        rows.push(row(multiply, kind, calls, mask, change));
+    }
+    rows
+}

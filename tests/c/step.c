@@ -1,0 +1,253 @@
+/*
+ * Steps as a C engineer calls them: the header, the archive, the rows of the papers, null pointers
+ * with length 0, and the ends of everything that is lent.
+ */
+#define _DEFAULT_SOURCE /* for MAP_ANONYMOUS */
+#include "check.h"
+#include "ridgecrook.h"
+
+#include <stddef.h>
+#include <stdint.h>
+#include <stdio.h>
+#include <stdlib.h>
+#include <string.h>
+#include <sys/mman.h>
+
+typedef struct {
+    uint8_t vectors[RIDGECROOK_VECTORS_SIZE];
+    uint64_t masks[RIDGECROOK_MASKS];
+    uint64_t general[RIDGECROOK_GENERAL];
+    uint32_t control;
+    uint64_t pointer;
+} machine;
+
+static void blank(machine *m) {
+    memset(m, 0, sizeof *m);
+    m->control = RIDGECROOK_CONTROL_RESET;
+}
+
+static int same(const machine *a, const machine *b) {
+    return memcmp(a->vectors, b->vectors, sizeof a->vectors) == 0 &&
+           memcmp(a->masks, b->masks, sizeof a->masks) == 0 &&
+           memcmp(a->general, b->general, sizeof a->general) == 0 && a->control == b->control &&
+           a->pointer == b->pointer;
+}
+
+static void set(machine *m, int reg, int lane, uint16_t half) {
+    m->vectors[RIDGECROOK_REGISTER_SIZE * reg + 2 * lane] = half & 0xFF;
+    m->vectors[RIDGECROOK_REGISTER_SIZE * reg + 2 * lane + 1] = half >> 8;
+}
+
+static uint16_t get(const machine *m, int reg, int lane) {
+    const uint8_t *at = m->vectors + RIDGECROOK_REGISTER_SIZE * reg + 2 * lane;
+    return (uint16_t)(at[0] | at[1] << 8);
+}
+
+static void fill(machine *m, int reg, uint16_t half) {
+    for (int lane = 0; lane < 32; lane++) {
+        set(m, reg, lane, half);
+    }
+}
+
+static ridgecrook_answer step(machine *m, const uint8_t *code, size_t code_length,
+                              const uint8_t *memory, size_t memory_length) {
+    return ridgecrook_step(m->vectors, sizeof m->vectors, m->masks, m->general, &m->control,
+                           &m->pointer, code, code_length, memory, memory_length);
+}
+
+static int is(ridgecrook_answer answer, uint32_t number, uint32_t length) {
+    return answer.number == number && answer.length == length;
+}
+
+static void check_layout(void) {
+    check(sizeof(ridgecrook_answer) == 8, "a ridgecrook_answer has 8 bytes");
+    check(offsetof(ridgecrook_answer, number) == 0, "number stands at 0");
+    check(offsetof(ridgecrook_answer, length) == 4, "length stands at 4");
+    check(RIDGECROOK_VECTORS_SIZE == 32 * RIDGECROOK_REGISTER_SIZE, "32 vector registers");
+}
+
+static const uint8_t ADD[] = {0x62, 0xF5, 0x74, 0x48, 0x58, 0xC2};      /* zmm0 = zmm1 + zmm2 */
+static const uint8_t ADD_DOWN[] = {0x62, 0xF5, 0x74, 0x38, 0x58, 0xC2}; /* the same, mode 1 */
+static const uint8_t ADD_MEMORY[] = {0x62, 0xF5, 0x74, 0x49, 0x58, 0x00}; /* k1, at RAX */
+static const uint8_t ADD_DISP8[] = {0x62, 0xF5, 0x74, 0xC9, 0x58, 0x40, 0x01};
+static const uint8_t ADD_BROADCAST[] = {0x62, 0xF5, 0x74, 0xD9, 0x58, 0x40, 0x01};
+static const uint8_t MULTIPLY[] = {0x62, 0xF5, 0x74, 0x48, 0x59, 0xC2};
+
+/* Every answer that can be had, with what it leaves: all as before, if nothing else is said. */
+static void check_refusals(void) {
+    static const struct {
+        uint8_t code[7];
+        size_t code_length;
+        uint32_t control, number;
+    } rows[] = {
+        {{0}, 0, 0x1F80, RIDGECROOK_CUT_SHORT},
+        {{0x62}, 1, 0x1F80, RIDGECROOK_CUT_SHORT},
+        {{0x62, 0xF5, 0x74, 0x48, 0x58}, 5, 0x1F80, RIDGECROOK_CUT_SHORT},
+        {{0x62, 0xF5, 0x74, 0x48, 0x58, 0x40}, 6, 0x1F80, RIDGECROOK_CUT_SHORT},
+        {{0x61, 0xF5, 0x74, 0x48, 0x58, 0xC2}, 6, 0x1F80, RIDGECROOK_NOT_LISTED},
+        {{0x62, 0xF5, 0x74, 0x48, 0x5D, 0xC2}, 6, 0x1F80, RIDGECROOK_NOT_LISTED},
+        {{0x62, 0xFD, 0x74, 0x48, 0x58, 0xC2}, 6, 0x1F80, RIDGECROOK_RESERVED},
+        {{0x62, 0xF5, 0x70, 0x48, 0x58, 0xC2}, 6, 0x1F80, RIDGECROOK_RESERVED},
+        {{0x62, 0xF5, 0x74, 0xC8, 0x58, 0xC2}, 6, 0x1F80, RIDGECROOK_RESERVED},
+        {{0x62, 0xF5, 0x74, 0x68, 0x58, 0xC2}, 6, 0x1F80, RIDGECROOK_RESERVED},
+        {{0x62, 0xF5, 0x74, 0x48, 0x58, 0xC2}, 6, 0x11F80, RIDGECROOK_BAD_CONTROL},
+        {{0x62, 0xF5, 0x74, 0x48, 0x58, 0x00}, 6, 0x1F80, RIDGECROOK_OUTSIDE_MEMORY},
+    };
+    static const uint8_t memory[63];
+    for (size_t i = 0; i < sizeof rows / sizeof rows[0]; i++) {
+        machine m, before;
+        blank(&m);
+        fill(&m, 1, 0x3C00);
+        m.control = rows[i].control;
+        before = m;
+        ridgecrook_answer answer = step(&m, rows[i].code, rows[i].code_length, memory, 63);
+        check(is(answer, rows[i].number, 0), "the answer of a refusal, its length 0");
+        check(same(&m, &before), "a refusal leaves all as before");
+    }
+}
+
+static void check_sizes(void) {
+    static const size_t sizes[] = {0, 1, 2047, 2049, 4096};
+    for (size_t i = 0; i < sizeof sizes / sizeof sizes[0]; i++) {
+        machine m;
+        blank(&m);
+        uint8_t *file = calloc(sizes[i] + 1, 1);
+        ridgecrook_answer answer = ridgecrook_step(file, sizes[i], m.masks, m.general, &m.control,
+                                                   &m.pointer, ADD, sizeof ADD, NULL, 0);
+        check(is(answer, RIDGECROOK_BAD_SIZE, 0), "a vector file of another size is refused");
+        free(file);
+    }
+}
+
+/* 62 F5 74 48 58 C2, and 62 F5 74 38 58 C2: 32 lanes in mode 1, nothing flagged. */
+static void check_registers(void) {
+    machine m, before;
+    blank(&m);
+    fill(&m, 1, 0x3C00);
+    fill(&m, 2, 0xBC00);
+    set(&m, 2, 31, 0x4000);
+    m.pointer = UINT64_MAX;
+    before = m;
+    check(is(step(&m, ADD, sizeof ADD, NULL, 0), RIDGECROOK_DONE, 6), "an addition is done");
+    check(get(&m, 0, 0) == 0x0000 && get(&m, 0, 31) == 0x4200, "sums in the first and last lane");
+    check(m.pointer == 5, "the pointer moves by the length, modulo 2 to the 64");
+    check(m.control == 0x1F80, "an exact sum has no flag");
+    before.pointer = m.pointer;
+    memcpy(before.vectors, m.vectors, RIDGECROOK_REGISTER_SIZE);
+    check(same(&m, &before), "all but the destination and the pointer stays");
+    m.control = 0;
+    set(&m, 2, 0, 0x0001);
+    check(is(step(&m, ADD_DOWN, sizeof ADD_DOWN, NULL, 0), RIDGECROOK_DONE, 6),
+          "embedded rounding is done with every exception unmasked");
+    check(get(&m, 0, 0) == 0x3C00 && get(&m, 0, 30) == 0x8000, "sums in mode 1");
+    check(m.control == 0, "embedded rounding flags nothing");
+}
+
+/* 0400*3800 with UE unmasked. */
+static void check_exception(void) {
+    machine m, before;
+    blank(&m);
+    fill(&m, 0, 0x1234);
+    set(&m, 1, 0, 0x0400);
+    set(&m, 2, 0, 0x3800);
+    m.control = 0x1780;
+    before = m;
+    ridgecrook_answer answer = step(&m, MULTIPLY, sizeof MULTIPLY, NULL, 0);
+    check(is(answer, RIDGECROOK_EXCEPTION, 0), "an unmasked underflow");
+    check(m.control == (0x1780 | RIDGECROOK_UE), "its flag is added");
+    before.control = m.control;
+    check(same(&m, &before), "and all else is as before");
+}
+
+/* RAX+2 under broadcast, RAX+64 without; memory of 1 byte and of 2. */
+static void check_memory(void) {
+    static const uint8_t memory[130] = {[4] = 0x00, [5] = 0x3C, [66] = 0x00, [67] = 0x40};
+    machine m;
+    blank(&m);
+    m.masks[1] = 1;
+    m.general[0] = 2;
+    check(is(step(&m, ADD_BROADCAST, 7, memory, 6), RIDGECROOK_DONE, 7), "a broadcast at RAX+2");
+    check(get(&m, 0, 0) == 0x3C00, "reads the word there");
+    check(is(step(&m, ADD_DISP8, 7, memory, 68), RIDGECROOK_DONE, 7), "a vector at RAX+64");
+    check(get(&m, 0, 0) == 0x4000, "reads the words there");
+    check(is(step(&m, ADD_DISP8, 7, memory, 67), RIDGECROOK_OUTSIDE_MEMORY, 0), "one byte less");
+    m.general[0] = 0;
+    check(is(step(&m, ADD_MEMORY, 6, memory, 1), RIDGECROOK_OUTSIDE_MEMORY, 0), "1 byte, mask 1");
+    check(is(step(&m, ADD_MEMORY, 6, memory, 2), RIDGECROOK_DONE, 6), "2 bytes, mask 1");
+    m.masks[1] = 0;
+    check(is(step(&m, ADD_MEMORY, 6, memory, 1), RIDGECROOK_DONE, 6), "1 byte, mask 0");
+}
+
+/* A null pointer with length 0 is common in C, and is not read. */
+static void check_null(void) {
+    machine m, before;
+    blank(&m);
+    before = m;
+    check(is(step(&m, NULL, 0, NULL, 0), RIDGECROOK_CUT_SHORT, 0), "no code at a null pointer");
+    check(same(&m, &before), "leaves all as before");
+    check(is(step(&m, ADD, sizeof ADD, NULL, 0), RIDGECROOK_DONE, 6), "no memory, none needed");
+    check(is(step(&m, ADD_MEMORY, 6, NULL, 0), RIDGECROOK_DONE, 6), "no memory, every lane off");
+    check(is(step(&m, ADD_BROADCAST, 7, NULL, 0), RIDGECROOK_DONE, 7), "the same, broadcast");
+    m.masks[1] = 1;
+    check(is(step(&m, ADD_MEMORY, 6, NULL, 0), RIDGECROOK_OUTSIDE_MEMORY, 0), "one lane on");
+    check(is(step(&m, ADD_BROADCAST, 7, NULL, 0), RIDGECROOK_OUTSIDE_MEMORY, 0), "broadcast");
+}
+
+enum { PAGE = 4096 };
+
+/* The end of a page behind which nothing may be read or written. */
+static uint8_t *page_end(void) {
+    uint8_t *pages = mmap(NULL, 3 * PAGE, PROT_NONE, MAP_PRIVATE | MAP_ANONYMOUS, -1, 0);
+    if (pages == MAP_FAILED || mprotect(pages + PAGE, PAGE, PROT_READ | PROT_WRITE) != 0) {
+        perror("mmap");
+        exit(2);
+    }
+    return pages + 2 * PAGE;
+}
+
+/*
+ * Code, memory and the vector file, each at the end of what can be read and written, and then at
+ * the beginning: one byte beyond would stop the program. The last word that is read ends the
+ * memory; lanes whose words would begin before it are off.
+ */
+static void check_ends(void) {
+    static const uint8_t far[] = {0x62, 0xF5, 0x74, 0x49, 0x58, 0x84, /* k1, at RSP-16 */
+                                  0x24, 0xF0, 0xFF, 0xFF, 0xFF};
+    uint8_t *code = page_end(), *memory = page_end(), *vectors = page_end();
+    machine m;
+    int cut = 1, done = 1;
+    blank(&m);
+    for (size_t held = 0; held <= 64; held++) {
+        m.general[4] = 16 + held - 64;
+        m.masks[1] = held < 2 ? 0 : UINT64_MAX << (65 - held) / 2;
+        for (size_t length = 0; length <= sizeof far; length++) {
+            memcpy(code - length, far, length);
+            ridgecrook_answer answer = ridgecrook_step(
+                vectors - 2048, 2048, m.masks, m.general, &m.control, &m.pointer, code - length,
+                length, memory - held, held);
+            if (length < sizeof far) {
+                cut &= is(answer, RIDGECROOK_CUT_SHORT, 0);
+            } else {
+                done &= is(answer, RIDGECROOK_DONE, sizeof far);
+            }
+        }
+    }
+    check(cut, "every cut of the code at the end of a page");
+    check(done, "every length of memory at the end of a page");
+    memcpy(code - PAGE, ADD_MEMORY, sizeof ADD_MEMORY);
+    ridgecrook_answer answer = ridgecrook_step(vectors - PAGE, 2048, m.masks, m.general, &m.control,
+                                               &m.pointer, code - PAGE, 6, memory - PAGE, PAGE);
+    check(is(answer, RIDGECROOK_DONE, 6), "buffers at the beginning of a page");
+}
+
+int main(void) {
+    check_layout();
+    check_refusals();
+    check_sizes();
+    check_registers();
+    check_exception();
+    check_memory();
+    check_null();
+    check_ends();
+    return finish();
+}

@@ -1,0 +1,160 @@
+//! Holds the second program's decoder against GNU objdump on random valid instructions: names,
+//! operands, masks, rounding and lengths. `cargo run --release --bin objdump_check`. The last line
+//! is `N passed, M failed`; where there is no objdump that knows AVX512-FP16, a line says that the
+//! check was skipped, and N is 0.
+
+use ridgecrook_tests::compare::setting;
+use ridgecrook_tests::random_step::Steps;
+use ridgecrook_tests::second::encoding::{decode, Address, Base, Instruction, Second, Source};
+use std::process::{exit, Command};
+
+const GENERAL: [&str; 16] = [
+    "rax", "rcx", "rdx", "rbx", "rsp", "rbp", "rsi", "rdi", "r8", "r9", "r10", "r11", "r12", "r13",
+    "r14", "r15",
+];
+
+fn main() {
+    let known = disassembled(&[0x62, 0xF5, 0x74, 0x48, 0x58, 0xC2]);
+    if known != ["0: vaddph zmm0,zmm1,zmm2"] {
+        println!("skipped: no objdump that knows AVX512-FP16");
+        println!("0 passed, 0 failed");
+        return;
+    }
+    let seed = setting("RIDGECROOK_SEED", 7);
+    let count = setting("RIDGECROOK_STEPS", 5_000);
+    let mut steps = Steps::seeded(seed);
+    let codes: Vec<Vec<u8>> = (0..count).map(|_| steps.code()).collect();
+    let lines = disassembled(&codes.concat());
+    let mut failed = 0;
+    let mut at = 0;
+    for (place, code) in codes.iter().enumerate() {
+        let instruction = decode(code).expect("a valid instruction");
+        let expected = format!("{at:x}: {}", written(&instruction));
+        let found = lines.get(place).map_or("", |line| line);
+        if found != expected {
+            failed += 1;
+            if failed <= 20 {
+                println!("{code:02X?} => {found} expected {expected}");
+            }
+        }
+        at += instruction.length;
+    }
+    println!("{} passed, {failed} failed", count - failed);
+    if failed > 0 || lines.len() != codes.len() {
+        exit(1);
+    }
+}
+
+/// What objdump writes of some bytes: `address: text`, a line for each instruction; nothing where
+/// there is no objdump.
+fn disassembled(bytes: &[u8]) -> Vec<String> {
+    let file = std::env::temp_dir().join(format!("objdump_check.{}", std::process::id()));
+    std::fs::write(&file, bytes).expect("the temporary folder takes a file");
+    let arguments = [
+        "-D",
+        "-b",
+        "binary",
+        "-m",
+        "i386:x86-64",
+        "-M",
+        "intel",
+        "-w",
+    ];
+    let run = Command::new("objdump").args(arguments).arg(&file).output();
+    std::fs::remove_file(&file).expect("the file is still there");
+    let output = run.map(|output| output.stdout).unwrap_or_default();
+    let text = String::from_utf8_lossy(&output);
+    text.lines().filter_map(instruction_text).collect()
+}
+
+/// A line is an address, a tab, bytes, a tab, text, and perhaps a comment.
+fn instruction_text(line: &str) -> Option<String> {
+    let mut parts = line.split('\t');
+    let (address, text) = (parts.next()?.trim(), parts.nth(1)?);
+    let text = text.split('#').next()?.trim();
+    Some(format!("{address} {}", without_riz(text)))
+}
+
+/// objdump writes an index that is none as `riz` and a scale, where the encoding has room for one;
+/// the same without.
+fn without_riz(text: &str) -> String {
+    if let Some((before, sum)) = text.split_once("[riz*") {
+        let (minus, digits) = (sum[1..].starts_with('-'), sum[4..].trim_end_matches(']'));
+        let magnitude = i64::from_str_radix(digits, 16).expect(text);
+        return format!(
+            "{before}ds:{:#x}",
+            if minus { -magnitude } else { magnitude }
+        );
+    }
+    let scales = ["+riz*1", "+riz*2", "+riz*4", "+riz*8"];
+    scales
+        .iter()
+        .fold(text.to_string(), |text, riz| text.replace(riz, ""))
+}
+
+/// The instruction as objdump writes it in Intel's syntax.
+fn written(instruction: &Instruction) -> String {
+    let mut text = format!(
+        "{} {}",
+        instruction.listed.name,
+        register(instruction, instruction.destination)
+    );
+    if instruction.mask != 0 {
+        text += &format!("{{k{}}}", instruction.mask);
+    }
+    if instruction.zeroing {
+        text += "{z}";
+    }
+    if instruction.listed.operands.contains(&Source::First) {
+        text += &format!(",{}", register(instruction, instruction.first));
+    }
+    text += ",";
+    match &instruction.second {
+        Second::Register(number) => text += &register(instruction, *number),
+        Second::Memory { address, broadcast } => {
+            text += &memory(instruction, address, *broadcast);
+        }
+    }
+    if let Some(mode) = instruction.embedded_mode {
+        text += ["{rn-sae}", "{rd-sae}", "{ru-sae}", "{rz-sae}"][mode as usize];
+    }
+    text
+}
+
+fn letter(instruction: &Instruction) -> char {
+    match instruction.lanes {
+        8 => 'x',
+        16 => 'y',
+        _ => 'z',
+    }
+}
+
+fn register(instruction: &Instruction, number: usize) -> String {
+    format!("{}mm{number}", letter(instruction))
+}
+
+fn memory(instruction: &Instruction, address: &Address, broadcast: bool) -> String {
+    let size = if broadcast {
+        "WORD BCST".to_string()
+    } else {
+        format!("{}MMWORD PTR", letter(instruction).to_ascii_uppercase())
+    };
+    let base = match address.base {
+        Base::None => None,
+        Base::General(number) => Some(GENERAL[number]),
+        Base::NextInstruction => Some("rip"),
+    };
+    let index = address
+        .index
+        .map(|(number, scale)| format!("{}*{scale}", GENERAL[number]));
+    let parts: Vec<String> = base.map(str::to_string).into_iter().chain(index).collect();
+    let shown = address.displacement_bytes > 0;
+    let displacement = address.displacement;
+    match parts.join("+") {
+        sum if sum.is_empty() => format!("{size} ds:{displacement:#x}"),
+        sum if sum == "rip" => format!("{size} [rip+{displacement:#x}]"),
+        sum if shown && displacement < 0 => format!("{size} [{sum}-{:#x}]", -displacement),
+        sum if shown => format!("{size} [{sum}+{displacement:#x}]"),
+        sum => format!("{size} [{sum}]"),
+    }
+}

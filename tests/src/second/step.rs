@@ -1,0 +1,168 @@
+//! A whole step by document 01: addresses and lanes ('Fields of an instruction'), flags ('Rounding
+//! and flags'), and what each answer leaves ('Numbers the engine gets back').
+
+use super::encoding::{decode, Address, Base, Instruction, Second, Source};
+use crate::case::Case;
+use crate::machine::{Answer, Machine, Step, StepOutcome, REGISTER_SIZE, VECTORS_SIZE};
+
+/// What document 01 answers to a step and leaves of it.
+pub fn step(before: &Step) -> StepOutcome {
+    let mut after = before.clone();
+    let answer = match carry_out(before, &mut after.machine) {
+        Ok(length) => Answer { number: 0, length },
+        // 'the length is 0 unless the number is 0'
+        Err(number) => Answer { number, length: 0 },
+    };
+    StepOutcome { answer, after }
+}
+
+/// The order of the refusals. The machine is changed only by the last lines, and by 8.
+fn carry_out(before: &Step, machine: &mut Machine) -> Result<u32, u32> {
+    // 1, 2
+    if before.machine.vectors.len() != VECTORS_SIZE {
+        return Err(1);
+    }
+    if before.machine.control >= 1 << 16 {
+        return Err(2);
+    }
+    // 3, 4, 5, 6 by the bytes alone
+    let instruction = decode(&before.code)?;
+    // 7: 'all sources are read before the destination is written'
+    let operands = gather(before, &instruction).ok_or(7_u32)?;
+    // 8
+    let (halves, flags) = compute(&before.machine, &instruction, &operands);
+    machine.control |= u32::from(flags);
+    if flags & unmasked(&before.machine, &instruction) != 0 {
+        return Err(8);
+    }
+    // 0
+    write_destination(machine, &instruction, &halves);
+    let length = instruction.length as u32;
+    machine.pointer = machine.pointer.wrapping_add(u64::from(length));
+    Ok(length)
+}
+
+/// 'aaa 000 means every lane is on; otherwise bit j of that mask register decides lane j.'
+pub fn is_on(machine: &Machine, instruction: &Instruction, lane: usize) -> bool {
+    let in_length = lane < instruction.lanes;
+    let mask = instruction.mask;
+    in_length && (mask == 0 || machine.masks[mask] >> lane & 1 == 1)
+}
+
+/// The operands of each lane that is on, in the operation's order; none where a word that such a
+/// lane needs lies outside memory. Lanes that are off read nothing.
+fn gather(before: &Step, instruction: &Instruction) -> Option<Vec<Option<[u16; 3]>>> {
+    let mut all = Vec::new();
+    for lane in 0..instruction.lanes {
+        if !is_on(&before.machine, instruction, lane) {
+            all.push(None);
+            continue;
+        }
+        let mut operands = [0; 3];
+        for (operand, source) in operands.iter_mut().zip(instruction.listed.operands) {
+            *operand = match source {
+                Source::Destination => before.machine.lane(instruction.destination, lane),
+                Source::First => before.machine.lane(instruction.first, lane),
+                Source::Second => second_operand(before, instruction, lane)?,
+            };
+        }
+        all.push(Some(operands));
+    }
+    Some(all)
+}
+
+fn second_operand(before: &Step, instruction: &Instruction, lane: usize) -> Option<u16> {
+    match instruction.second {
+        Second::Register(register) => Some(before.machine.lane(register, lane)),
+        Second::Memory { address, broadcast } => {
+            let first = first_address(&before.machine, &address, instruction.length);
+            // 'lane j's word begins 2j after the first, also modulo 2 to the 64'
+            let offset = if broadcast { 0 } else { 2 * lane as u64 };
+            word(&before.memory, first.wrapping_add(offset))
+        }
+    }
+}
+
+/// 'Addresses are sums modulo 2 to the 64.'
+pub fn first_address(machine: &Machine, address: &Address, length: usize) -> u64 {
+    let base = match address.base {
+        Base::None => 0,
+        Base::General(number) => machine.general[number],
+        Base::NextInstruction => machine.pointer.wrapping_add(length as u64),
+    };
+    let index = match address.index {
+        Some((number, scale)) => machine.general[number].wrapping_mul(scale),
+        None => 0,
+    };
+    let displacement = address.displacement as u64;
+    base.wrapping_add(index).wrapping_add(displacement)
+}
+
+/// The word at an address, little-endian; none if one of its two bytes lies outside memory.
+fn word(memory: &[u8], address: u64) -> Option<u16> {
+    let low = byte(memory, address)?;
+    let high = byte(memory, address.wrapping_add(1))?;
+    Some(u16::from_le_bytes([low, high]))
+}
+
+/// 'Lent memory holds addresses 0 to its length less 1.'
+fn byte(memory: &[u8], address: u64) -> Option<u8> {
+    memory.get(usize::try_from(address).ok()?).copied()
+}
+
+/// The half of each lane that is on, and the flags that are recorded: those of all these lanes
+/// or-ed, none with embedded rounding.
+fn compute(
+    machine: &Machine,
+    instruction: &Instruction,
+    operands: &[Option<[u16; 3]>],
+) -> (Vec<Option<u16>>, u8) {
+    let (mut halves, mut flags) = (Vec::new(), 0);
+    for lane in operands {
+        let outcome = lane.map(|operands| {
+            super::answer(&Case {
+                operation: instruction.listed.operation,
+                mode: mode(machine, instruction),
+                underflow_unmasked: u32::from(unmasked(machine, instruction) >> 4 & 1),
+                operands,
+            })
+        });
+        halves.push(outcome.map(|outcome| outcome.half));
+        flags |= outcome.map_or(0, |outcome| outcome.flags);
+    }
+    match instruction.embedded_mode {
+        Some(_) => (halves, 0),
+        None => (halves, flags),
+    }
+}
+
+/// Embedded, or 'mode in 13 and 14'.
+fn mode(machine: &Machine, instruction: &Instruction) -> u32 {
+    let of_control = machine.control >> 13 & 3;
+    instruction.embedded_mode.unwrap_or(of_control)
+}
+
+/// The exceptions that are not masked, at the places of their flags: 'their masks in 7 to 12'.
+/// With embedded rounding 'all six exceptions count as masked'.
+pub fn unmasked(machine: &Machine, instruction: &Instruction) -> u8 {
+    match instruction.embedded_mode {
+        Some(_) => 0,
+        None => !(machine.control >> 7) as u8 & 63,
+    }
+}
+
+/// Lanes that are off 'keep the old destination, or become 0 with z. Bytes above the vector length
+/// become 0.'
+fn write_destination(machine: &mut Machine, instruction: &Instruction, halves: &[Option<u16>]) {
+    let destination = instruction.destination;
+    for lane in 0..REGISTER_SIZE / 2 {
+        let old = machine.lane(destination, lane);
+        let half = match halves.get(lane) {
+            Some(Some(half)) => *half,
+            Some(None) if instruction.zeroing => 0,
+            Some(None) => old,
+            None => 0,
+        };
+        machine.set_lane(destination, lane, half);
+    }
+}

@@ -1,0 +1,134 @@
+//! Exceptions: lanes that raise every set of flags, under every set of masks, with flags left from
+//! before, in lanes that are on and lanes that are off, by control word and by embedded rounding.
+
+use ridgecrook_tests::assemble::Encoding;
+use ridgecrook_tests::case::{DE, IE, OE, PE, UE, ZE};
+use ridgecrook_tests::coverage::Watched;
+use ridgecrook_tests::library;
+use ridgecrook_tests::machine::Step;
+use ridgecrook_tests::second::{self, encoding::LIST};
+
+/// Dividend, divisor, and the flags of their quotient where all exceptions are masked: each
+/// exception as alone as it comes, and an exact tiny quotient, which has UE where it is unmasked.
+const LANES: [(u16, u16, u8); 7] = [
+    (0x0000, 0x0000, IE),
+    (0x0001, 0x0001, DE),
+    (0x3C00, 0x0000, ZE),
+    (0x7BFF, 0x3800, OE | PE),
+    (0x0401, 0x4000, UE | PE),
+    (0x4500, 0x4200, PE),
+    (0x0400, 0x4000, 0),
+];
+
+const VDIVPH: usize = 3;
+
+/// VDIVPH of registers 1 and 2 to register 0, whose lanes 0 to 6 are those above and which has 32
+/// lanes or embedded rounding; `on` goes to k1.
+fn division(on: u64, control: u32, embedded: bool) -> Step {
+    let encoding = Encoding {
+        mask: 1,
+        extra: u8::from(embedded),
+        ..Encoding::registers(&LIST[VDIVPH], 0, 1, 2)
+    };
+    let mut step = Step::of(encoding.bytes());
+    let machine = &mut step.machine;
+    machine.vectors[..64].fill(0x55);
+    for (lane, (dividend, divisor, _)) in LANES.iter().enumerate() {
+        machine.set_lane(1, lane, *dividend);
+        machine.set_lane(2, lane, *divisor);
+    }
+    machine.masks[1] = on;
+    machine.control = control;
+    step
+}
+
+#[test]
+fn the_lanes_raise_what_they_say() {
+    for (lane, (_, _, flags)) in LANES.iter().enumerate() {
+        let step = division(1 << lane, 0x1F80, false);
+        for outcome in [second::step(&step), library::step_outcome(&step)] {
+            let control = outcome.after.machine.control;
+            assert_eq!(control, 0x1F80 | u32::from(*flags), "lane {lane}");
+        }
+    }
+    let tiny = second::step(&division(1 << 6, 0x1780, false));
+    assert_eq!(
+        (tiny.answer.number, tiny.after.machine.control),
+        (8, 0x1790)
+    );
+}
+
+/// Every set of lanes under every set of masks.
+#[test]
+fn every_mixture_under_every_mask() {
+    let mut watched = Watched::of(library::step_outcome, "mixtures of exceptions");
+    for place in 0..128 * 64_u32 {
+        let (on, masks) = (u64::from(place % 128), place / 128);
+        // Flags left from before: none, some, or all.
+        for stale in [0, place % 61, 63] {
+            let step = division(on, masks << 7 | stale, false);
+            watched.step(&step);
+        }
+        watched.step(&division(on, (masks << 7) | (place % 64), true));
+    }
+    watched.finish(128 * 64 * 4, &[0, 8]);
+}
+
+/// Embedded rounding in the four modes masks and hides everything, whatever the control word says.
+#[test]
+fn embedded_rounding_hides_every_exception() {
+    for place in 0..64 * 4_u32 {
+        let (masks, mode) = (place / 4, (place % 4) as u8);
+        let mut step = division(0xFF, masks << 7, true);
+        step.machine.set_lane(1, 7, 0xC500);
+        step.machine.set_lane(2, 7, 0x4200);
+        step.code[3] = step.code[3] & !0x60 | mode << 5;
+        for outcome in [second::step(&step), library::step_outcome(&step)] {
+            let machine = &outcome.after.machine;
+            let shown = (outcome.answer.number, machine.control);
+            assert_eq!(shown, (0, masks << 7), "{step}");
+            // 5/3 and -5/3, which tell the modes apart.
+            let thirds = [
+                [0x3EAB, 0xBEAB],
+                [0x3EAA, 0xBEAB],
+                [0x3EAB, 0xBEAA],
+                [0x3EAA, 0xBEAA],
+            ];
+            let halves = [machine.lane(0, 5), machine.lane(0, 7)];
+            assert_eq!(halves, thirds[usize::from(mode)], "{step}");
+            assert_eq!(machine.lane(0, 6), 0x0200, "{step}");
+        }
+    }
+}
+
+/// Each of the eight instructions on lanes that raise something, in every mode, with each exception
+/// unmasked alone, and none, and all.
+#[test]
+fn every_instruction_and_mode() {
+    let mut watched = Watched::of(library::step_outcome, "exceptions of each instruction");
+    let halves = [
+        0x0000, 0x8000, 0x0001, 0x03FF, 0x0400, 0x3800, 0x3C00, 0xBC01, 0x7BFF, 0xFBFF, 0x7C00,
+        0xFC00, 0x7C01, 0x7E00, 0x1FE0, 0x2010,
+    ];
+    for place in 0..8 * 4 * 8 * 256_usize {
+        let (row, mode, unmasked) = (place % 8, place / 8 % 4, place / 32 % 8);
+        let (a, b) = (halves[place / 256 % 16], halves[place / 4096 % 16]);
+        let (first, second) = if row == 4 { (0, 2) } else { (1, 2) };
+        let mut encoding = Encoding::registers(&LIST[row], 3, first, second);
+        (encoding.mask, encoding.length) = (5, 0);
+        let mut step = Step::of(encoding.bytes());
+        let machine = &mut step.machine;
+        // Bit 6 stands for none, 7 for all.
+        let masks = [0x3E, 0x3D, 0x3B, 0x37, 0x2F, 0x1F, 0x3F, 0x00][unmasked];
+        machine.control = (masks << 7) | (mode as u32) << 13;
+        machine.masks[5] = 0b101;
+        machine.vectors[3 * 64..4 * 64].fill(0x55);
+        for (register, half) in [(1, a), (2, b), (3, a ^ b)] {
+            machine.set_lane(register, 0, half);
+            machine.set_lane(register, 2, 0x3C00);
+            machine.set_lane(register, 1, 0x7C01);
+        }
+        watched.step(&step);
+    }
+    watched.finish(65_536, &[0, 8]);
+}

@@ -1,0 +1,63 @@
+//! Random steps by the library and the second program, one by one and in sequences, and a count of
+//! what they reach.
+//!
+//! `RIDGECROOK_SEED` sets the seed, `RIDGECROOK_STEPS` the number of steps of each test. What was
+//! reached is shown by `cargo test --release --test step_random -- --nocapture`.
+
+use ridgecrook_tests::compare::setting;
+use ridgecrook_tests::coverage::Watched;
+use ridgecrook_tests::library;
+use ridgecrook_tests::machine::Step;
+use ridgecrook_tests::random_step::Steps;
+
+const SEED: u64 = 20_240_301;
+
+/// Fewer steps than this may miss something without a fault.
+const ENOUGH: u64 = 100_000;
+
+#[test]
+fn random_steps_reach_everything_and_agree() {
+    let seed = setting("RIDGECROOK_SEED", SEED);
+    let count = setting("RIDGECROOK_STEPS", 160_000);
+    let name = format!("steps at random, seed {seed}");
+    let mut watched = Watched::of(library::step_outcome, &name);
+    let mut steps = Steps::seeded(seed);
+    for _ in 0..count {
+        watched.step(&steps.step());
+    }
+    let coverage = watched.finish(count, &[0, 1, 2, 3, 4, 5, 7, 8]);
+    coverage.lines().iter().for_each(|line| println!("{line}"));
+    if count >= ENOUGH {
+        coverage.require(10);
+    }
+}
+
+const STEPS_A_SEQUENCE: u64 = 12;
+
+/// Each step goes on from the state that the one before left, whatever its answer was.
+#[test]
+fn sequences_of_steps_agree() {
+    let seed = setting("RIDGECROOK_SEED", SEED);
+    let sequences = setting("RIDGECROOK_STEPS", 30_000).div_ceil(STEPS_A_SEQUENCE);
+    let name = format!("sequences of {STEPS_A_SEQUENCE} steps, seed {seed}");
+    let mut watched = Watched::of(library::step_outcome, &name);
+    let mut steps = Steps::seeded(seed);
+    for _ in 0..sequences {
+        let (mut machine, mut memory) = steps.start();
+        for _ in 0..STEPS_A_SEQUENCE {
+            let step = Step {
+                machine,
+                code: steps.code(),
+                memory,
+            };
+            let expected = watched.step(&step);
+            // Where the library agrees, this is the state that it left too.
+            Step {
+                machine,
+                memory,
+                ..
+            } = expected.after;
+        }
+    }
+    watched.finish(sequences * STEPS_A_SEQUENCE, &[0, 7, 8]);
+}

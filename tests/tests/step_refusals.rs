@@ -1,0 +1,293 @@
+//! Refusals: each alone, each before every later one, every cut, every opcode, map, prefix and W.
+//!
+//! Answer 6 has no test of its own: no listed form is longer than 11 bytes, so no input gives it.
+//! `step_random` fails if it is ever seen.
+
+use ridgecrook_tests::assemble::Encoding;
+use ridgecrook_tests::compare::failure;
+use ridgecrook_tests::coverage::Watched;
+use ridgecrook_tests::library;
+use ridgecrook_tests::machine::{Answer, Machine, Step, StepOutcome};
+use ridgecrook_tests::second::{self, encoding::LIST};
+
+/// Something that calls for a refusal. The bytes are cut after all else is done to them.
+struct Condition {
+    name: &'static str,
+    number: u32,
+    /// How many of the bytes are left, where that is the condition.
+    kept: Option<usize>,
+    spoil: fn(&mut Step),
+}
+
+const fn cut(name: &'static str, kept: usize) -> Condition {
+    Condition {
+        name,
+        number: 3,
+        kept: Some(kept),
+        spoil: |_| (),
+    }
+}
+
+const fn spoiled(name: &'static str, number: u32, spoil: fn(&mut Step)) -> Condition {
+    Condition {
+        name,
+        number,
+        kept: None,
+        spoil,
+    }
+}
+
+/// In the order of document 01. Conditions between which it has no order stand in one group.
+const CONDITIONS: [&[Condition]; 11] = [
+    &[
+        spoiled("a vector file of 2,047 bytes", 1, |step| {
+            step.machine.vectors.truncate(2047);
+        }),
+        spoiled("a vector file of 2,049 bytes", 1, |step| {
+            step.machine.vectors.push(0);
+        }),
+    ],
+    &[
+        spoiled("control word bit 16", 2, |step| {
+            step.machine.control |= 1 << 16;
+        }),
+        spoiled("control word bit 31", 2, |step| {
+            step.machine.control |= 1 << 31;
+        }),
+    ],
+    &[cut("no bytes", 0)],
+    &[spoiled("byte 0", 4, |step| step.code[0] = 0x63)],
+    &[
+        cut("one byte", 1),
+        cut("four bytes", 4),
+        cut("five bytes", 5),
+    ],
+    &[
+        spoiled("byte 1 bit 3", 5, |step| step.code[1] |= 8),
+        spoiled("byte 2 bit 2", 5, |step| step.code[2] &= !4),
+    ],
+    &[
+        spoiled("an unlisted map", 4, |step| step.code[1] ^= 4),
+        spoiled("an unlisted prefix", 4, |step| step.code[2] ^= 2),
+        spoiled("W", 4, |step| step.code[2] |= 0x80),
+        spoiled("an unlisted opcode", 4, |step| step.code[4] ^= 2),
+    ],
+    &[
+        spoiled("length bits 11", 5, |step| step.code[3] |= 0x60),
+        spoiled("zeroing without a mask", 5, |step| step.code[3] |= 0x80),
+        spoiled("a first source in V'", 5, |step| {
+            step.code[3] &= !8;
+            step.code[4] ^= 0x09;
+        }),
+        spoiled("a first source in vvvv", 5, |step| {
+            step.code[2] &= !8;
+            step.code[4] ^= 0x09;
+        }),
+    ],
+    &[
+        cut("no SIB", 6),
+        cut("no displacement", 7),
+        cut("half a displacement", 10),
+    ],
+    &[
+        spoiled("lane 1 outside memory", 7, |step| step.memory.truncate(2)),
+        spoiled("memory of no bytes", 7, |step| step.memory.clear()),
+    ],
+    // Lane 0 is invalid; no lane is before or after it in another way.
+    &[spoiled("an unmasked exception", 8, |step| {
+        step.machine.control = step.machine.control & !0x1F80 | 0x1F00;
+    })],
+];
+
+/// VADDPH, 32 lanes, no mask, at SIB and 32-bit displacement (11 bytes). Lane 0 of the r/m operand
+/// is a signalling NaN, which is invalid by addition and by root.
+fn good() -> Step {
+    let encoding = Encoding::memory(&LIST[0], 0, 4, &[0x25, 0, 0, 0, 0]);
+    let mut memory = vec![0; 64];
+    memory[..2].copy_from_slice(&0x7C01_u16.to_le_bytes());
+    Step {
+        machine: Machine::blank(),
+        code: encoding.bytes(),
+        memory,
+    }
+}
+
+fn with(conditions: &[&Condition]) -> Step {
+    let mut step = good();
+    for condition in conditions {
+        (condition.spoil)(&mut step);
+    }
+    if let Some(kept) = conditions.iter().filter_map(|c| c.kept).min() {
+        step.code.truncate(kept);
+    }
+    step
+}
+
+/// The answer is that number, and everything is left as it was but for the flags that 8 adds.
+fn check(names: &str, before: &Step, number: u32) {
+    let mut refused = StepOutcome {
+        answer: Answer { number, length: 0 },
+        after: before.clone(),
+    };
+    if number == 8 {
+        refused.after.machine.control |= 1;
+    }
+    for outcome in [library::step_outcome(before), second::step(before)] {
+        let agrees = outcome == refused;
+        assert!(agrees, "{names}: {}", failure(before, &outcome, &refused));
+    }
+}
+
+#[test]
+fn each_condition_is_refused() {
+    assert_eq!(
+        second::step(&good()).answer,
+        Answer {
+            number: 0,
+            length: 11
+        }
+    );
+    for condition in CONDITIONS.iter().flat_map(|group| group.iter()) {
+        check(condition.name, &with(&[condition]), condition.number);
+    }
+}
+
+/// Whether two conditions, the earlier first, can hold of one step: what is spoiled in a byte that
+/// is cut off is not there. (What is not in the list is no root, and then has no needless first
+/// source; the bits of one must not be refused before the list all the same.)
+fn can_meet(earlier: &Condition, later: &Condition) -> bool {
+    let place = match later.name {
+        "byte 0" => 0,
+        "byte 1 bit 3" | "an unlisted map" => 1,
+        "byte 2 bit 2" | "an unlisted prefix" | "W" => 2,
+        "length bits 11" | "zeroing without a mask" => 3,
+        "an unlisted opcode" | "a first source in V'" | "a first source in vvvv" => 4,
+        _ => return true,
+    };
+    earlier.kept.is_none_or(|kept| kept > place)
+}
+
+/// Of two conditions at once the earlier is answered, whichever two they are; neighbours are among
+/// them.
+#[test]
+fn the_earlier_of_two_is_answered() {
+    let mut pairs = 0;
+    for (place, group) in CONDITIONS.iter().enumerate() {
+        for later_group in &CONDITIONS[place + 1..] {
+            let both = group
+                .iter()
+                .flat_map(|a| later_group.iter().map(move |b| (a, b)));
+            for (earlier, later) in both.filter(|(a, b)| can_meet(a, b)) {
+                let names = format!("{} and {}", earlier.name, later.name);
+                check(&names, &with(&[earlier, later]), earlier.number);
+                pairs += 1;
+            }
+        }
+    }
+    assert_eq!(pairs, 254, "the pairs that can meet");
+}
+
+/// All of them from some place on, without later cuts, which would take away what is spoiled.
+#[test]
+fn the_first_of_many_is_answered() {
+    for place in 0..CONDITIONS.len() {
+        let from_here = CONDITIONS[place..].iter().map(|group| &group[0]);
+        let counted = from_here.enumerate();
+        let chosen = counted.filter(|(later, condition)| *later == 0 || condition.kept.is_none());
+        let conditions: Vec<&Condition> = chosen.map(|(_, condition)| condition).collect();
+        let first = conditions[0];
+        check(first.name, &with(&conditions), first.number);
+    }
+}
+
+/// Every operand form, each with all its bytes, fewer, and more, which are not looked at.
+#[test]
+fn every_cut() {
+    let mut watched = Watched::of(library::step_outcome, "every cut");
+    for listed in &LIST {
+        for modrm in 0..=255_u8 {
+            for sib in [0x24, 0x25, 0x05, 0x98] {
+                let rest = [sib, 0, 0, 0, 0, 0xAA, 0x62, 0xFF, 0xFF, 0xFF, 0xFF, 0xFF];
+                let mut encoding = Encoding::memory(listed, modrm >> 6, modrm & 7, &rest);
+                encoding.destination = modrm >> 3 & 7;
+                let mut step = Step::of(encoding.bytes());
+                step.memory = vec![0x3C; 300];
+                // 17 bytes down to none: bytes after the instruction, then each cut of it.
+                while step.code.pop().is_some() {
+                    watched.step(&step);
+                }
+            }
+        }
+    }
+    watched.finish(147_456, &[0, 3, 7]);
+}
+
+/// Every opcode in every map, with every prefix and W, in register and memory form.
+#[test]
+fn every_opcode() {
+    let mut watched = Watched::of(library::step_outcome, "every opcode");
+    let mut done = 0;
+    for place in 0..16_384_u32 {
+        let encoding = Encoding {
+            opcode: place as u8,
+            map: (place >> 8 & 7) as u8,
+            prefix: (place >> 11 & 3) as u8,
+            w: (place >> 13 & 1) as u8,
+            ..Encoding::registers(&LIST[0], 1, 0, 3)
+        };
+        for mode in [0, 3] {
+            let bytes = Encoding {
+                mode,
+                ..encoding.clone()
+            }
+            .bytes();
+            let mut step = Step::of(bytes);
+            step.memory = vec![0x3C; 64];
+            let expected = watched.step(&step);
+            done += u32::from(expected.answer.number == 0);
+        }
+    }
+    watched.finish(32_768, &[0, 4]);
+    assert_eq!(done, 16, "eight instructions, two forms");
+}
+
+/// Each of the first four bytes with every value, in register, memory and broadcast form.
+#[test]
+fn every_prefix_byte() {
+    let mut watched = Watched::of(library::step_outcome, "every prefix byte");
+    for listed in &LIST {
+        for place in 0..4 {
+            for value in 0..=255 {
+                for (mode, extra) in [(0, 0), (0, 1), (3, 0), (3, 1)] {
+                    let mut encoding = Encoding::memory(listed, mode, 2, &[]);
+                    encoding.extra = extra;
+                    let mut step = Step::of(encoding.bytes());
+                    step.code[place] = value;
+                    step.memory = vec![0x3C; 40];
+                    step.machine.masks = [0xFF; 8];
+                    watched.step(&step);
+                }
+            }
+        }
+    }
+    watched.finish(32_768, &[0, 4, 5, 7]);
+}
+
+/// Vector files of other sizes and control words with any high bit are refused, and left alone.
+#[test]
+fn sizes_and_control_words() {
+    for size in [
+        0, 1, 2, 63, 64, 1024, 2046, 2047, 2049, 2050, 4095, 4096, 65_536,
+    ] {
+        let mut step = good();
+        step.machine.vectors = (0..size).map(|place| place as u8).collect();
+        check("a size", &step, 1);
+    }
+    for bit in 16..32 {
+        let mut step = good();
+        step.machine.control = 1 << bit | 0x9FFF;
+        check("a control word", &step, 2);
+        step.machine.control = 1 << bit;
+        check("a control word", &step, 2);
+    }
+}
