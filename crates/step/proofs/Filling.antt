@@ -1,19 +1,18 @@
 -- Loops over the indices 0, 1, .., one at each turn: what stands in a list, in or-ed flags or in a test after j turns. The list is a table at the end.
 -- Assumes nothing.
-use Prim.Native.Nat.{ℕ, zero, suc, _+_, _<_, _≤_}
+use Prim.Native.Nat.{ℕ, _+_, _<_, _≤_}
 use mathlib.Core.Path.{_≡_, refl, sym, ap, _∙_}
 use mathlib.Core.Bool.{Bool, true, false, _||_, true≢false}
 use mathlib.Core.List.{List}
 use native.Mathlib.Decide.{decLt}
 use native.Mathlib.Nat.{le-antisymm}
-use native.Mathlib.Numerals.{add-one}
 use native.Mathlib.Omega.{arith}
 use lib.Bits.{bitOr}
 use lib.ListN.{length, getD, set, length-set}
 use lib.Seq.{getD-set-same, getD-set-other}
 use Rattle.half.specs.Operations.{some}
 use Rattle.machine.specs.Lists.{table, orAll}
-use Rattle.machine.proofs.Tables.{is-table, or-next, some-next}
+use Rattle.machine.proofs.Tables.{is-table, table-member, some-has, or-next, some-next}
 
 -- a list of n numbers that are f's up to j, and d's from there on
 pub record Filled (f : ℕ → ℕ) (n : ℕ) (d l : List ℕ) (j : ℕ) : Type 0 where
@@ -92,15 +91,9 @@ module _ {n : ℕ} {p : ℕ → Bool} {x : Bool} {j : ℕ} (F : Found n p x j) w
   found-all h = F .is ∙ ap (λ (i : ℕ). some p (table i (λ k. k))) (le-antisymm (F .within) h)
 
 -- where none was found, the test held of no index
-pub neither : (a b : Bool) → (a || b) ≡ false → (a ≡ false) × (b ≡ false)
-neither true b e = absurd (true≢false e)
-neither false b e = (refl, e)
-
 pub nowhere : (p : ℕ → Bool) (n j : ℕ) → some p (table n (λ k. k)) ≡ false → j < n → p j ≡ false
-nowhere p zero j e h = absurd (omega arith)
-nowhere p (suc n) j e h =
-    let both : (some p (table n (λ k. k)) ≡ false) × (p n ≡ false) = neither _ _ (sym (some-next p n (λ k. k)) ∙ rw (add-one n) e) in
-    elim (decLt j n) [
-      | yes y ↦ nowhere p n j (both .0) y
-      | no y ↦ let q : j ≡ n = omega arith in rw q (both .1)
-    ]
+nowhere p n j e h = go (p j) refl
+  where
+    go : (t : Bool) → p j ≡ t → p j ≡ false
+    go true q = absurd (true≢false (sym (some-has p (table n (λ k. k)) (table-member n (λ k. k) j h) q) ∙ e))
+    go false q = q

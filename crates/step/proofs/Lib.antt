@@ -1,4 +1,5 @@
 -- What the functions' proofs cite.
+
 pub mod Filling
 pub mod Sets
 pub mod Signed

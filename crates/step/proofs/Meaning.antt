@@ -1,6 +1,6 @@
 -- What the parts of a step compute is what the machine defines.
 -- Assumes nothing.
-use Prim.Native.Nat.{ℕ, _+_, _*_, _/_, _%_, _^_, _<_}
+use Prim.Native.Nat.{ℕ, _+_, _/_, _%_, _^_, _<_}
 use mathlib.Core.Path.{_≡_, refl, sym, ap, _∙_}
 use mathlib.Core.Bool.{Bool, true, false, cond, not, _&&_, and-false}
 use mathlib.Core.List.{List, [], _∷_}
@@ -27,13 +27,13 @@ use Rattle.half.specs.Operations.{some}
 use Rattle.machine.specs.Lists.{table}
 use Rattle.machine.specs.State.{State, Stepped, registerAt}
 use Rattle.machine.specs.Memory.{on, indexValue, baseValue, wrapped, addressOf, wordAddress, bytesRead, needsOutside}
-use Rattle.machine.specs.Lanes.{Sources, roundingMode, unmasked, recorded, gathered, registerHalves, firstHalves, secondHalves, results, raised, raisesUnmasked, controlAfter, newByte, newRegister, vectorsAfter}
+use Rattle.machine.specs.Lanes.{Sources, roundingMode, unmasked, recorded, gathered, registerHalves, firstHalves, secondHalves, results, raised, raisesUnmasked, controlAfter, newRegister, vectorsAfter}
 use Rattle.machine.specs.Step.{refused, stopped, completed, step}
 use Rattle.machine.proofs.Ends.{refuses-memory, stops, completes}
 use Rattle.machine.proofs.Tables.{table-equal, getD-table}
 use Rattle.step.specs.declared.lanes.Results.{Results}
 use Rattle.step.specs.Stepped.{steppedOf}
-use Rattle.step.specs.Work.{onBy, keptBy, baseFrom, indexFrom, addressFrom, firstWord, wordFrom, wordPlaces, wordsOutside, outside, halvesWhere, registerWhere, firstWhere, secondWhere, resultsWhere, byteWhere, storedBytes, storedFile, Left, leftOf, finished, executed}
+use Rattle.step.specs.Work.{onBy, keptBy, baseFrom, indexFrom, addressFrom, wordsOutside, outside, halvesWhere, registerWhere, firstWhere, secondWhere, resultsWhere, storedBytes, storedFile, Left, leftOf, finished, executed}
 
 -- ---- addresses: the next instruction's pointer may be cut to 64 bits before the sum
 
@@ -58,7 +58,7 @@ module _ (s : State) (i : Instruction) (next : ℕ) (n : next ≡ (s .pointer + 
   nowhere-off p (j ∷ l) = rw (and-false (p j)) (nowhere-off p l)
 
   outside-by : (length : ℕ) (o : Operand)
-      → outside (on s i) length (firstWord (s .general) next o) o ≡ some (λ j. on s i j && some (λ a. leb length a) (bytesRead s i o j)) (table 32 (λ j. j))
+      → outside (on s i) length (s .general) next o ≡ some (λ j. on s i j && some (λ a. leb length a) (bytesRead s i o j)) (table 32 (λ j. j))
   unfolding bytesRead wordAddress wordsOutside
   outside-by length (operand.Register r) = sym (nowhere-off (on s i) (table 32 (λ j. j)))
   outside-by length (operand.Memory a broadcast) = rw (address-is a)
@@ -74,7 +74,7 @@ module _ (s : State) (i : Instruction) (next : ℕ) (n : next ≡ (s .pointer + 
     first-is source.None = refl
     first-is (source.Register r) = register-is r
 
-    second-is : (o : Operand) → secondWhere (on s i) (s .vectors) memory (firstWord (s .general) next o) o ≡ secondHalves memory s i o
+    second-is : (o : Operand) → secondWhere (on s i) (s .vectors) memory (s .general) next o ≡ secondHalves memory s i o
     unfolding halvesWhere bytesRead wordAddress
     second-is (operand.Register r) = register-is r
     second-is (operand.Memory a broadcast) = rw (address-is a)
@@ -123,18 +123,18 @@ module _ (memory : List ℕ) (s : State) (i : Instruction) (p : ℕ → Bool) (e
   unfolding on
   lanes-are = e
 
-  pub outside-is : outside p (length memory) (firstWord (s .general) next (i .second)) (i .second) ≡ needsOutside s i (length memory)
+  pub outside-is : outside p (length memory) (s .general) next (i .second) ≡ needsOutside s i (length memory)
   unfolding needsOutside
   outside-is = rw lanes-are (outside-by s i next n (length memory) (i .second))
 
-  pub refuses : outside p (length memory) (firstWord (s .general) next (i .second)) (i .second) ≡ true → refused 7 s ≡ executed memory s i
+  pub refuses : outside p (length memory) (s .general) next (i .second) ≡ true → refused 7 s ≡ executed memory s i
   unfolding executed
   refuses t = rw (← outside-is, t)
 
-  module _ (inside : outside p (length memory) (firstWord (s .general) next (i .second)) (i .second) ≡ false) (r : Results)
+  module _ (inside : outside p (length memory) (s .general) next (i .second) ≡ false) (r : Results)
       (computed : r ≡ resultsWhere p (i .operation) (roundingMode (i .rounding) (s .control)) (bits (unmasked (i .rounding) (s .control)) 4 1)
       (registerWhere p (s .vectors) (i .destination)) (firstWhere p (s .vectors) (i .first))
-      (secondWhere p (s .vectors) memory (firstWord (s .general) next (i .second)) (i .second))) where
+      (secondWhere p (s .vectors) memory (s .general) next (i .second))) where
     computed-is : r ≡ record { halves = results s i (gathered memory s i); flags = raised s i (gathered memory s i) }
     unfolding gathered
     computed-is =

@@ -1,6 +1,6 @@
 -- A signed number of 32 bits modulo 2 to the 64, as the code makes it: a negative d is 2 ^ 64 - 1 less -1 - d.
 -- Assumes nothing.
-use mathlib.Core.Path.{_≡_, refl, ap}
+use mathlib.Core.Path.{_≡_, ap}
 use mathlib.Core.Bool.{true, false, true≢false}
 use Prim.Native.Nat.{ℕ, suc, _-_, _^_, _<_}
 use native.Mathlib.Omega.{arith}

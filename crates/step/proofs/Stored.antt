@@ -1,15 +1,14 @@
 -- A turn of the loop that stores lanes: a lane that is kept is left in place, and the two bytes of any other are stored.
 -- Assumes nothing.
-use Prim.Native.Nat.{ℕ, _+_, _*_, _/_, _%_, _^_, _<_}
+use Prim.Native.Nat.{ℕ, _+_, _*_, _/_, _%_, _<_}
 use mathlib.Core.Path.{_≡_, refl, sym}
 use mathlib.Core.Bool.{Bool, true, false, cond}
-use mathlib.Core.List.{List, _++_, append-assoc}
+use mathlib.Core.List.{List, _++_}
 use native.Mathlib.Nat.{div-one}
 use native.Mathlib.Omega.{arith}
-use lib.ListN.{length, getD, set, take, drop}
-use lib.Seq.{take-all, drop-drop}
-use Rattle.machine.specs.Lists.{table}
-use Rattle.machine.proofs.Tables.{length-table}
+use lib.ListN.{getD, set, take, drop}
+use lib.Seq.{drop-drop}
+use Rattle.machine.proofs.Tables.{length-table, paste-whole}
 use Rattle.step.specs.Work.{byteWhere, storedBytes, storedFile}
 use Rattle.step.proofs.Filling.{Filled, more, same}
 
@@ -44,6 +43,4 @@ pub pasted : (kept : ℕ → Bool) (halves file : List ℕ) (n : ℕ)
 unfolding storedFile storedBytes
 pasted kept halves file n =
     let old = take 64 (drop (n * 64) file) in
-    let long : length (table 64 (byteWhere kept halves old)) ≡ 64 = length-table 64 (byteWhere kept halves old) in
-    rw (drop-drop 64 (n * 64) file, take-all 64 (table 64 (byteWhere kept halves old)) (omega arith))
-    (sym (append-assoc (take (n * 64) file) (table 64 (byteWhere kept halves old)) (drop (n * 64 + 64) file)))
+    rw (drop-drop 64 (n * 64) file) (sym (paste-whole file (n * 64) (storedBytes kept halves old) 64 (length-table 64 (byteWhere kept halves old))))

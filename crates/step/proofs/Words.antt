@@ -1,15 +1,18 @@
 -- A lane that is on reads both bytes of its word inside memory, where no word was found outside.
 -- Assumes nothing.
 use Prim.Native.Nat.{ℕ, _+_, _%_, _^_, _<_}
-use mathlib.Core.Path.{_≡_}
-use mathlib.Core.Bool.{Bool, true, false, _&&_, _||_}
+use mathlib.Core.Path.{_≡_, refl}
+use mathlib.Core.Bool.{Bool, true, false, _&&_, _||_, true≢false}
 use native.Mathlib.Omega.{arith}
 use borrow.Author.Tests.{leb-false}
 use lib.Dec.{leb}
 use Rattle.half.specs.Operations.{some}
-use Rattle.machine.specs.Lists.{table}
 use Rattle.step.specs.Work.{wordFrom, wordPlaces, wordsOutside}
-use Rattle.step.proofs.Filling.{neither, nowhere}
+use Rattle.step.proofs.Filling.{nowhere}
+
+neither : (a b : Bool) → (a || b) ≡ false → (a ≡ false) × (b ≡ false)
+neither true b e = absurd (true≢false e)
+neither false b e = (refl, e)
 
 pub record Inside (length w : ℕ) : Type 0 where
   pub below : w + 1 < length

@@ -57,11 +57,6 @@ indexFrom general (index.Scaled n scale) = getD general n 0 * 2 ^ scale
 unfoldable pub addressFrom : List ℕ → ℕ → Address → ℕ
 addressFrom general next a = (baseFrom general next (a .base) + indexFrom general (a .index) + wrapped (a .displacement)) % 2 ^ 64
 
--- of the second source, where it is memory
-abbrev pub firstWord : List ℕ → ℕ → Operand → ℕ
-firstWord general next (operand.Register n) = 0
-firstWord general next (operand.Memory a broadcast) = addressFrom general next a
-
 -- lane j's word, where the first begins at `at`
 abbrev pub wordFrom : ℕ → Bool → ℕ → ℕ
 wordFrom at broadcast j = (at + cond broadcast 0 (2 * j)) % 2 ^ 64
@@ -75,9 +70,9 @@ module _ (on : ℕ → Bool) where
   wordsOutside memoryLength at broadcast =
       some (λ j. on j && some (λ a. leb memoryLength a) (wordPlaces (wordFrom at broadcast j))) (table 32 (λ j. j))
 
-  abbrev pub outside : ℕ → ℕ → Operand → Bool
-  outside memoryLength at (operand.Register n) = false
-  outside memoryLength at (operand.Memory a broadcast) = wordsOutside memoryLength at broadcast
+  abbrev pub outside : ℕ → List ℕ → ℕ → Operand → Bool
+  outside memoryLength general next (operand.Register n) = false
+  outside memoryLength general next (operand.Memory a broadcast) = wordsOutside memoryLength (addressFrom general next a) broadcast
 
   -- ---- sources: 32 halves, 0 where a lane is off
 
@@ -94,9 +89,9 @@ module _ (on : ℕ → Bool) where
   firstWhere vectors source.None = table 32 (λ j. 0)
   firstWhere vectors (source.Register n) = registerWhere vectors n
 
-  abbrev pub secondWhere : List ℕ → List ℕ → ℕ → Operand → List ℕ
-  secondWhere vectors memory at (operand.Register n) = registerWhere vectors n
-  secondWhere vectors memory at (operand.Memory a broadcast) = memoryWhere memory at broadcast
+  abbrev pub secondWhere : List ℕ → List ℕ → List ℕ → ℕ → Operand → List ℕ
+  secondWhere vectors memory general next (operand.Register n) = registerWhere vectors n
+  secondWhere vectors memory general next (operand.Memory a broadcast) = memoryWhere memory (addressFrom general next a) broadcast
 
   -- ---- lanes
 

@@ -8,7 +8,7 @@ ghost use Rattle.evex.specs.Bits.{isSet};
 ghost use Rattle.evex.proofs.Bounds.{BaseIn, IndexIn, OperandIn};
 ghost use Rattle.half.specs.Operations.{some};
 ghost use Rattle.machine.specs.Memory.{wrapped};
-ghost use Rattle.step.specs.Work.{baseFrom, indexFrom, addressFrom, firstWord, wordFrom, wordPlaces, wordsOutside, outside};
+ghost use Rattle.step.specs.Work.{baseFrom, indexFrom, addressFrom, wordFrom, wordPlaces, wordsOutside, outside};
 use super::mask::has;
 use evex::Address;
 use evex::Base;
@@ -47,7 +47,7 @@ fn index_value(index: Index, general: &[u64; 16]) -> u64
     }
 }
 
-fn address(a: Address, general: &[u64; 16], next: u64) -> u64
+pub(crate) fn address(a: Address, general: &[u64; 16], next: u64) -> u64
     requires { ⌜ BaseIn (a .base) × IndexIn (a .index) ⌝ }
     ensures { λ r. ⌜ r ≡ addressFrom (now (general .entry)) next a ⌝ }
 {
@@ -58,20 +58,6 @@ fn address(a: Address, general: &[u64; 16], next: u64) -> u64
         index_value(index, general),
     );
     std::num::wrapping_add_u64(sum, wrapped(a.displacement))
-}
-
-// Where the second source's first word begins; 0 where it is no memory.
-pub(crate) fn first_word(second: Operand, general: &[u64; 16], next: u64) -> u64
-    requires { ⌜ OperandIn second ⌝ }
-    ensures { λ r. ⌜ r ≡ firstWord (now (general .entry)) next second ⌝ }
-{
-    match second {
-        Operand::Register(_) => 0,
-        Operand::Memory {
-            address: a,
-            broadcast: _,
-        } => address(a, general, next),
-    }
 }
 
 // Where lane j's word begins. With broadcast all lanes read the first.
@@ -110,15 +96,22 @@ fn words_outside(on: u64, length: u64, at: u64, broadcast: bool) -> bool
     found
 }
 
-// A lane that is on needs an address outside memory.
-pub(crate) fn is_outside(on: u64, length: u64, at: u64, second: Operand) -> bool
-    ensures { λ r. ⌜ r ≡ outside (isSet on) length at second ⌝ }
+// A lane that is on needs an address outside a memory of this length.
+pub(crate) fn is_outside(
+    on: u64,
+    length: u64,
+    general: &[u64; 16],
+    next: u64,
+    second: Operand,
+) -> bool
+    requires { ⌜ OperandIn second ⌝ }
+    ensures { λ r. ⌜ r ≡ outside (isSet on) length (now (general .entry)) next second ⌝ }
 {
     match second {
         Operand::Register(_) => false,
         Operand::Memory {
-            address: _,
+            address: a,
             broadcast,
-        } => words_outside(on, length, at, broadcast),
+        } => words_outside(on, length, address(a, general, next), broadcast),
     }
 }

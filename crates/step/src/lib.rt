@@ -6,7 +6,6 @@ ghost use Rattle.evex.proofs.Bounds.{Bounds};
 ghost use Rattle.machine.specs.Step.{step};
 ghost use Rattle.step.specs.Stepped.{stateOf, steppedOf};
 ghost use Rattle.step.specs.Work.{leftOf, finished, executed, refusalNumber};
-use address::first_word;
 use address::is_outside;
 use control::Control;
 use evex::Decoded;
@@ -28,7 +27,8 @@ mod mask;
 mod sources;
 mod store;
 
-fn refused(number: u32) -> Answer
+// An answer other than 0: its length is 0.
+fn ended(number: u32) -> Answer
     ensures { λ r. ⌜ r ≡ record { number = number; length = 0 } ⌝ }
 {
     Answer { number, length: 0 }
@@ -58,14 +58,15 @@ fn finish(
 {
     let word = Control { bits: *control };
     let rounding = i.rounding;
-    let halves = results.halves;
     let flagged = word.recorded(rounding, results.flags);
-    *control = flagged.bits;
     if word.raises(rounding, results.flags) {
-        return refused(8);
+        *control = flagged.bits;
+        return ended(8);
     }
+    let halves = results.halves;
     let kept = lanes_kept(on, i.lanes, i.zeroing);
     store(vectors, i.destination, kept, halves);
+    *control = flagged.bits;
     *pointer = next;
     Answer {
         number: 0,
@@ -86,22 +87,22 @@ fn execute(
     requires { ⌜ (length (now vectors) ≡ 2048) × Bounds i ⌝ }
     ensures { λ r. ⌜ steppedOf r (now (vectors .exit)) (now (masks .entry)) (now (general .entry)) (now (control .exit)) (now (pointer .exit)) ≡ executed (now (memory .entry)) (stateOf (now (vectors .entry)) (now (masks .entry)) (now (general .entry)) (now (control .entry)) (now (pointer .entry))) i ⌝ }
 {
-    let operation = i.operation;
-    let rounding = i.rounding;
-    let first = i.first;
-    let second = i.second;
     let next = std::num::wrapping_add_u64(*pointer, i.size as u64);
     let on = lanes_on(masks, i.mask, i.lanes);
-    let at = first_word(second, general, next);
-    if is_outside(on, memory.len() as u64, at, second) {
-        return refused(7);
+    let second = i.second;
+    if is_outside(on, memory.len() as u64, general, next, second) {
+        return ended(7);
     }
+    let first = i.first;
     let d = register_halves(on, vectors, i.destination);
     let f = first_halves(on, vectors, first);
-    let x = second_halves(on, vectors, memory, at, second);
+    let x = second_halves(on, vectors, memory, general, next, second);
+    let operation = i.operation;
+    let rounding = i.rounding;
     let word = Control { bits: *control };
     let mode = word.rounding_mode(rounding);
-    let results = all_lanes(on, operation, mode, word.underflow(rounding), d, f, x);
+    let underflow = word.underflow(rounding);
+    let results = all_lanes(on, operation, mode, underflow, d, f, x);
     finish(vectors, control, pointer, i, on, next, results)
 }
 
@@ -118,14 +119,14 @@ pub fn step(
     ensures { λ r. ⌜ steppedOf r (now (vectors .exit)) (now (masks .exit)) (now (general .entry)) (now (control .exit)) (now (pointer .exit)) ≡ step (now (memory .entry)) (stateOf (now (vectors .entry)) (now (masks .entry)) (now (general .entry)) (now (control .entry)) (now (pointer .entry))) (now (code .entry)) ⌝ }
 {
     if vectors.len() != 2048 {
-        return refused(1);
+        return ended(1);
     }
     if 0x10000 <= *control {
-        return refused(2);
+        return ended(2);
     }
     let decoded = evex::decode(code);
     let Decoded::Fields(i) = decoded else {
-        return refused(refusal_number(decoded));
+        return ended(refusal_number(decoded));
     };
     execute(vectors, masks, general, control, pointer, memory, i)
 }

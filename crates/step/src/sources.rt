@@ -8,6 +8,7 @@ ghost use Rattle.evex.specs.Bits.{isSet};
 ghost use Rattle.evex.proofs.Bounds.{SourceIn, OperandIn};
 ghost use Rattle.machine.specs.State.{numberAt, lanePlaces};
 ghost use Rattle.step.specs.Work.{wordFrom, wordPlaces, wordsOutside, outside, registerWhere, memoryWhere, firstWhere, secondWhere};
+use super::address::address;
 use super::address::word_from;
 use super::mask::has;
 use evex::Operand;
@@ -83,17 +84,18 @@ pub(crate) fn second_halves(
     on: u64,
     vectors: &[u8],
     memory: &[u8],
-    at: u64,
+    general: &[u64; 16],
+    next: u64,
     second: Operand,
 ) -> [u16; 32]
-    requires { ⌜ (length (now vectors) ≡ 2048) × OperandIn second × (outside (isSet on) (length (now memory)) at second ≡ false) ⌝ }
-    ensures { λ r. ⌜ r ≡ secondWhere (isSet on) (now (vectors .entry)) (now (memory .entry)) at second ⌝ }
+    requires { ⌜ (length (now vectors) ≡ 2048) × OperandIn second × (outside (isSet on) (length (now memory)) (now general) next second ≡ false) ⌝ }
+    ensures { λ r. ⌜ r ≡ secondWhere (isSet on) (now (vectors .entry)) (now (memory .entry)) (now (general .entry)) next second ⌝ }
 {
     match second {
         Operand::Register(n) => register_halves(on, vectors, n),
         Operand::Memory {
-            address: _,
+            address: a,
             broadcast,
-        } => memory_halves(on, memory, at, broadcast),
+        } => memory_halves(on, memory, address(a, general, next), broadcast),
     }
 }

@@ -1,3 +1,4 @@
+-- `step::address::address` meets its contract: two sums, each modulo 2 to the 64.
 use lib.Signed.{mag}
 use mir.Syntax.{w32}
 use mir.Facts.{toZ-ofZ}
@@ -7,34 +8,22 @@ use Rattle.step.specs.Work.{addressFrom}
 use borrow.Author.Needs.{needs}
 use Rattle.step.proofs.address.address.Statement.{statement}
 use Rattle.step.proofs.address.address.Tie as tie
-use Rattle.step.proofs.address.address.Reads as reads
-use Rattle.step.proofs.address.address.Lts as lts
-use Rattle.std.proofs.num.wrapping_add_u64.Reads as wrapping-add-u64-reads
-use Rattle.step.proofs.address.base_value.Reads as base-value-reads
-use Rattle.step.proofs.address.index_value.Reads as index-value-reads
-use Rattle.step.proofs.address.wrapped.Reads as wrapped-reads
 
--- src/address.rt:57:9
 base-value-requires : tie.Need-base-value-requires
 base-value-requires c κs = search needs
 
--- src/address.rt:58:9
 index-value-requires : tie.Need-index-value-requires
 index-value-requires c κs = search needs
 
--- src/address.rt:56:9
 wrapping-add-u64-requires : tie.Need-wrapping-add-u64-requires
 wrapping-add-u64-requires c κs = search needs
 
--- src/address.rt:60:37
 wrapped-requires : tie.Need-wrapped-requires
 wrapped-requires c κs = search needs
 
--- src/address.rt:60:5
 wrapping-add-u64-requires-2 : tie.Need-wrapping-add-u64-requires-2
 wrapping-add-u64-requires-2 c κs = search needs
 
--- src/address.rt:50:1
 returns : tie.Need-returns
 unfolding addressFrom
 returns c = let f : mag (c .before .before .before .before .before .before .args .a .displacement) < 2 ^ 31 = omega (arith, c .before .before .struct-told .given) in

@@ -1,3 +1,4 @@
+-- `step::address::words_outside` meets its contract: the loop has found what the lanes that it passed find.
 use Prim.Native.Nat.{_-_}
 use mathlib.Core.Bool.{_&&_}
 use native.Mathlib.Omega.{arith}
@@ -8,9 +9,6 @@ use Rattle.step.specs.Work.{wordFrom, wordPlaces, wordsOutside}
 use Rattle.step.proofs.Filling.{Found, found-none, found-more, found-all}
 use Rattle.step.proofs.address.words_outside.Statement.{statement}
 use Rattle.step.proofs.address.words_outside.Tie as tie
-use Rattle.step.proofs.address.words_outside.Reads as reads
-use Rattle.step.proofs.address.words_outside.Lts as lts
-use Rattle.step.proofs.address.lane_outside.Reads as lane-outside-reads
 
 abbrev Inv-loop : tie.InvT-loop
 Inv-loop on length at broadcast found₀ j₀ found j = Found 32 (λ k. isSet on k && some (λ a. leb length a) (wordPlaces (wordFrom at broadcast k))) found j
@@ -18,27 +16,21 @@ Inv-loop on length at broadcast found₀ j₀ found j = Found 32 (λ k. isSet on
 abbrev μ-loop : tie.MeasureT-loop
 μ-loop on length at broadcast found₀ j₀ found j = 32 - j
 
--- src/address.rt:107:5
 loop-holds : tie.Need-loop-holds Inv-loop μ-loop
 loop-holds c = found-none
 
--- src/address.rt:108:25
 lane-outside-requires : tie.Need-lane-outside-requires Inv-loop μ-loop
 lane-outside-requires c κs = omega arith
 
--- src/address.rt:107:9
 add-j : tie.Need-add-j Inv-loop μ-loop
 add-j c = omega arith
 
--- src/address.rt:107:5
 loop-less : tie.Need-loop-less Inv-loop μ-loop
 loop-less c = omega arith
 
--- src/address.rt:107:5
 loop-again : tie.Need-loop-again Inv-loop μ-loop
 loop-again c = found-more (c .before .before .loop .inv) (omega arith) (c .lane-outside .ensures)
 
--- src/address.rt:103:1
 returns : tie.Need-returns Inv-loop μ-loop
 unfolding wordsOutside
 returns c = found-all (c .before .loop .inv) (c .loop-test .left)

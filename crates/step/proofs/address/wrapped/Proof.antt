@@ -1,4 +1,5 @@
-use mathlib.Core.Path.{_≡_, sym, ap, _∙_}
+-- `step::address::wrapped` meets its contract: by the sign: see proofs/Signed.antt.
+use mathlib.Core.Path.{_≡_, ap, _∙_}
 use native.Mathlib.Omega.{arith}
 use lib.IntN.{negsuc, pos, _-ℤ_}
 use mir.Syntax.{w32}
@@ -7,8 +8,6 @@ use mir.Facts.{toZ-ofZ, toZ-pos, fits-natAbs}
 use Rattle.step.proofs.Signed.{Negative, negative, natural}
 use Rattle.step.proofs.address.wrapped.Statement.{statement}
 use Rattle.step.proofs.address.wrapped.Tie as tie
-use Rattle.step.proofs.address.wrapped.Reads as reads
-use Rattle.step.proofs.address.wrapped.Lts as lts
 
 -- the parameter as a negative number, and what is read back of -1 - d
 neg : (c : tie.Then1) → Negative (c .before .args .d)
@@ -17,27 +16,21 @@ neg c = negative _ (c .before .fits .d) (c .if1 .taken)
 read : (c : tie.Then1) → toZ w32 (ofZ w32 (negsuc 0 -ℤ toZ w32 (ofZ w32 (c .before .args .d)))) ≡ pos (neg c .less)
 read c = ap (λ z. toZ w32 (ofZ w32 z)) (neg c .flips) ∙ toZ-pos w32 (neg c .small)
 
--- src/address.rt:23:22
 sub-result : tie.Need-sub-result
 sub-result c = rw (neg c .flips) (record { sfits = neg c .small })
 
--- src/address.rt:23:21
 cast-result : tie.Need-cast-result
 cast-result c = rw (read c) (tt, omega (arith, neg c .small))
 
--- src/address.rt:23:9
 sub-result-2 : tie.Need-sub-result-2
 sub-result-2 c = rw (read c) (omega (arith, neg c .small))
 
--- src/address.rt:25:9
 cast-result-2 : tie.Need-cast-result-2
 cast-result-2 c = rw (toZ-ofZ (c .before .fits .d)) (natural _ (c .before .fits .d) (c .if1 .left) .plain, fits-natAbs tt (c .before .fits .d))
 
--- src/address.rt:19:1
 returns : tie.Need-returns
 returns c = rw (read c) (neg c .is)
 
--- src/address.rt:19:1
 returns-2 : tie.Need-returns-2
 returns-2 c = rw (toZ-ofZ (c .before .fits .d)) (natural _ (c .before .fits .d) (c .if1 .left) .is)
 

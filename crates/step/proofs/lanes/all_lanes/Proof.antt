@@ -1,6 +1,7 @@
+-- `step::lanes::all_lanes` meets its contract: the loop fills the results lane by lane, and or-s the flags.
 use Rattle.step.proofs.Lane.{half-if, flags-if}
 use Prim.Native.Nat.{_-_}
-use mathlib.Core.Path.{refl, ap, _∙_}
+use mathlib.Core.Path.{refl}
 use mathlib.Core.Bool.{cond}
 use native.Mathlib.Omega.{arith}
 use Rattle.evex.specs.Bits.{isSet}
@@ -8,10 +9,6 @@ use Rattle.step.specs.Work.{laneAt, resultsWhere}
 use Rattle.step.proofs.Filling.{Filled, none, more, all, Ored, or-none, or-more, or-all}
 use Rattle.step.proofs.lanes.all_lanes.Statement.{statement}
 use Rattle.step.proofs.lanes.all_lanes.Tie as tie
-use Rattle.step.proofs.lanes.all_lanes.Reads as reads
-use Rattle.step.proofs.lanes.all_lanes.Lts as lts
-use Rattle.step.proofs.lanes.lane_if.Reads as lane-if-reads
-use Rattle.step.proofs.mask.has.Reads as has-reads
 
 abbrev Inv-loop : tie.InvT-loop
 Inv-loop on operation mode underflow d f x halves₀ flags₀ j₀ halves flags j = Filled (λ k. cond (isSet on k) (laneAt (isSet on) operation mode underflow d f x k .half) 0) 32 halves₀ halves j
@@ -20,59 +17,45 @@ Inv-loop on operation mode underflow d f x halves₀ flags₀ j₀ halves flags 
 abbrev μ-loop : tie.MeasureT-loop
 μ-loop on operation mode underflow d f x halves₀ flags₀ j₀ halves flags j = 32 - j
 
--- src/lanes.rt:68:5
 loop-holds : tie.Need-loop-holds Inv-loop μ-loop
 loop-holds c = (none refl, or-none)
 
--- src/lanes.rt:69:25
 has-requires : tie.Need-has-requires Inv-loop μ-loop
 has-requires c κs = omega arith
 
--- src/lanes.rt:69:65
 mul-lane-if : tie.Need-mul-lane-if Inv-loop μ-loop
 mul-lane-if c = omega arith
 
--- src/lanes.rt:69:65
 array-read-lane-if : tie.Need-array-read-lane-if Inv-loop μ-loop
 array-read-lane-if c = omega arith
 
--- src/lanes.rt:69:71
 mul-lane-if-2 : tie.Need-mul-lane-if-2 Inv-loop μ-loop
 mul-lane-if-2 c = omega arith
 
--- src/lanes.rt:69:71
 array-read-lane-if-2 : tie.Need-array-read-lane-if-2 Inv-loop μ-loop
 array-read-lane-if-2 c = omega arith
 
--- src/lanes.rt:69:77
 mul-lane-if-3 : tie.Need-mul-lane-if-3 Inv-loop μ-loop
 mul-lane-if-3 c = omega arith
 
--- src/lanes.rt:69:77
 array-read-lane-if-3 : tie.Need-array-read-lane-if-3 Inv-loop μ-loop
 array-read-lane-if-3 c = omega arith
 
--- src/lanes.rt:69:13
 lane-if-requires : tie.Need-lane-if-requires Inv-loop μ-loop
 lane-if-requires c κs = tt
 
--- src/lanes.rt:70:9
 mul-halves : tie.Need-mul-halves Inv-loop μ-loop
 mul-halves c = omega arith
 
--- src/lanes.rt:70:9
 array-write-halves : tie.Need-array-write-halves Inv-loop μ-loop
 array-write-halves c = omega arith
 
--- src/lanes.rt:68:9
 add-j : tie.Need-add-j Inv-loop μ-loop
 add-j c = omega arith
 
--- src/lanes.rt:68:5
 loop-less : tie.Need-loop-less Inv-loop μ-loop
 loop-less c = omega arith
 
--- src/lanes.rt:68:5
 loop-again : tie.Need-loop-again Inv-loop μ-loop
 loop-again c = let on = isSet (c .before .before .before .before .before .args .on) in
     let lane = laneAt on (c .before .before .before .before .before .args .operation) (c .before .before .before .before .before .args .mode) (c .before .before .before .before .before .args .underflow) (c .before .before .before .before .before .args .t5) (c .before .before .before .before .before .args .t6) (c .before .before .before .before .before .args .t7) (c .before .before .before .before .loop .j) in (
@@ -80,7 +63,6 @@ loop-again c = let on = isSet (c .before .before .before .before .before .args .
       or-more (c .before .before .before .before .loop .inv .1) (rw (c .before .lane-if .ensures, c .before .before .has .ensures) (flags-if (on (c .before .before .before .before .loop .j)) lane)),
     )
 
--- src/lanes.rt:55:1
 returns : tie.Need-returns Inv-loop μ-loop
 unfolding resultsWhere
 returns c = λ i.

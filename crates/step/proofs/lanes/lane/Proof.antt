@@ -1,116 +1,85 @@
+-- `step::lanes::lane` meets its contract: by the operation; each cites what the arithmetic promises.
 use Rattle.machine.specs.Lanes.{laneResult}
 use borrow.Author.Needs.{needs}
 use Rattle.step.proofs.lanes.lane.Statement.{statement}
 use Rattle.step.proofs.lanes.lane.Tie as tie
-use Rattle.step.proofs.lanes.lane.Reads as reads
-use Rattle.step.proofs.lanes.lane.Lts as lts
-use Rattle.half.proofs.numbers.add.Reads as add-reads
-use Rattle.half.proofs.numbers.divide.Reads as divide-reads
-use Rattle.half.proofs.numbers.multiply.Reads as multiply-reads
-use Rattle.half.proofs.numbers.multiply_add.Reads as multiply-add-reads
-use Rattle.half.proofs.numbers.square_root.Reads as square-root-reads
-use Rattle.half.proofs.numbers.subtract.Reads as subtract-reads
 
--- src/lanes.rt:23:27
 enum-told : tie.Need-enum-told
 enum-told c = search needs
 
--- src/lanes.rt:23:27
 add-requires : tie.Need-add-requires
 add-requires c κs = search needs
 
--- src/lanes.rt:24:32
 enum-told-2 : tie.Need-enum-told-2
 enum-told-2 c = search needs
 
--- src/lanes.rt:24:32
 multiply-requires : tie.Need-multiply-requires
 multiply-requires c κs = search needs
 
--- src/lanes.rt:25:32
 enum-told-3 : tie.Need-enum-told-3
 enum-told-3 c = search needs
 
--- src/lanes.rt:25:32
 subtract-requires : tie.Need-subtract-requires
 subtract-requires c κs = search needs
 
--- src/lanes.rt:26:30
 enum-told-4 : tie.Need-enum-told-4
 enum-told-4 c = search needs
 
--- src/lanes.rt:26:30
 divide-requires : tie.Need-divide-requires
 divide-requires c κs = search needs
 
--- src/lanes.rt:27:34
 enum-told-5 : tie.Need-enum-told-5
 enum-told-5 c = search needs
 
--- src/lanes.rt:27:34
 square-root-requires : tie.Need-square-root-requires
 square-root-requires c κs = search needs
 
--- src/lanes.rt:28:32
 enum-told-6 : tie.Need-enum-told-6
 enum-told-6 c = search needs
 
--- src/lanes.rt:28:32
 multiply-add-requires : tie.Need-multiply-add-requires
 multiply-add-requires c κs = search needs
 
--- src/lanes.rt:29:32
 enum-told-7 : tie.Need-enum-told-7
 enum-told-7 c = search needs
 
--- src/lanes.rt:29:32
 multiply-add-requires-2 : tie.Need-multiply-add-requires-2
 multiply-add-requires-2 c κs = search needs
 
--- src/lanes.rt:30:32
 enum-told-8 : tie.Need-enum-told-8
 enum-told-8 c = search needs
 
--- src/lanes.rt:30:32
 multiply-add-requires-3 : tie.Need-multiply-add-requires-3
 multiply-add-requires-3 c κs = search needs
 
--- src/lanes.rt:19:1
 returns : tie.Need-returns
 unfolding laneResult
 returns c = rw (c .before .enum-told .given .1) (c .add .ensures)
 
--- src/lanes.rt:19:1
 returns-2 : tie.Need-returns-2
 unfolding laneResult
 returns-2 c = rw (c .before .enum-told2 .given .1) (c .multiply .ensures)
 
--- src/lanes.rt:19:1
 returns-3 : tie.Need-returns-3
 unfolding laneResult
 returns-3 c = rw (c .before .enum-told3 .given .1) (c .subtract .ensures)
 
--- src/lanes.rt:19:1
 returns-4 : tie.Need-returns-4
 unfolding laneResult
 returns-4 c = rw (c .before .enum-told4 .given .1) (c .divide .ensures)
 
--- src/lanes.rt:19:1
 returns-5 : tie.Need-returns-5
 unfolding laneResult
 returns-5 c = rw (c .before .enum-told5 .given .1) (c .square-root .ensures)
 
--- src/lanes.rt:19:1
 returns-6 : tie.Need-returns-6
 unfolding laneResult
 returns-6 c = rw (c .before .enum-told6 .given .1) (c .multiply-add .ensures)
 
--- src/lanes.rt:19:1
 returns-7 : tie.Need-returns-7
 unfolding laneResult
 returns-7 c = rw (c .before .enum-told7 .given .1) (c .multiply-add2 .ensures)
 
--- src/lanes.rt:19:1
 returns-8 : tie.Need-returns-8
 unfolding laneResult
 returns-8 c = rw (c .before .enum-told8 .given .1) (c .multiply-add3 .ensures)

@@ -1,36 +1,24 @@
-use mathlib.Core.Path.{_≡_, sym, ap, _∙_}
-use lib.Bits.{bitAnd}
-use lib.ListN.{getD}
-use Rattle.evex.specs.Bits.{isSet}
+-- `step::mask::lanes_on` meets its contract: bit by bit: see proofs/Sets.antt.
 use Rattle.step.proofs.Sets.{on-all, on-some}
 use borrow.Author.Needs.{needs}
 use Rattle.step.proofs.mask.lanes_on.Statement.{statement}
 use Rattle.step.proofs.mask.lanes_on.Tie as tie
-use Rattle.step.proofs.mask.lanes_on.Reads as reads
-use Rattle.step.proofs.mask.lanes_on.Lts as lts
-use Rattle.step.proofs.mask.below.Reads as below-reads
 
--- src/mask.rt:28:9
 below-requires : tie.Need-below-requires
 below-requires c κs = search needs
 
--- src/mask.rt:28:9
 returns : tie.Need-returns
 returns c = rw (c .below .ensures) (on-all (c .before .before .args .masks .now) (c .before .before .args .mask) (c .before .before .args .lanes) (c .before .if1 .taken))
 
--- src/mask.rt:30:5
 mul-result : tie.Need-mul-result
 mul-result c = search needs
 
--- src/mask.rt:30:5
 element-copy-out-result : tie.Need-element-copy-out-result
 element-copy-out-result c = search needs
 
--- src/mask.rt:30:19
 below-requires-2 : tie.Need-below-requires-2
 below-requires-2 c κs = search needs
 
--- src/mask.rt:23:1
 returns-2 : tie.Need-returns-2
 returns-2 c = rw (c .below2 .ensures) (on-some (c .before .before .before .args .masks .now) (c .before .before .before .args .mask) (c .before .before .before .args .lanes) (c .before .before .if1 .left))
 

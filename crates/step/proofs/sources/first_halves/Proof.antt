@@ -1,31 +1,24 @@
-use mathlib.Core.Path.{subst, refl}
+-- `step::sources::first_halves` meets its contract: by the kind of the source.
+use mathlib.Core.Path.{subst}
 use Rattle.evex.proofs.Bounds.{SourceIn}
 use Rattle.machine.specs.Lists.{table}
 use borrow.Author.Needs.{needs}
 use Rattle.step.proofs.sources.first_halves.Statement.{statement}
 use Rattle.step.proofs.sources.first_halves.Tie as tie
-use Rattle.step.proofs.sources.first_halves.Reads as reads
-use Rattle.step.proofs.sources.first_halves.Lts as lts
-use Rattle.step.proofs.sources.register_halves.Reads as register-halves-reads
 
--- src/sources.rt:77:25
 enum-told : tie.Need-enum-told
 enum-told c = search needs
 
--- src/sources.rt:78:26
 enum-known-first : tie.Need-enum-known-first
 enum-known-first c = search needs
 
--- src/sources.rt:78:32
 register-halves-requires : tie.Need-register-halves-requires
 register-halves-requires c κs = (c .before .before .before .before .pre .0, subst SourceIn (c .before .first .given .1) (c .before .before .before .before .pre .1))
 
--- src/sources.rt:72:1
 returns : tie.Need-returns
 unfolding table
 returns c = rw (c .enum-told .given .1)
 
--- src/sources.rt:72:1
 returns-2 : tie.Need-returns-2
 returns-2 c = rw (c .before .before .first .given .1) (c .register-halves .ensures)
 

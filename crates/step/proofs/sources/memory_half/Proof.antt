@@ -1,3 +1,4 @@
+-- `step::sources::memory_half` meets its contract: a lane that is on reads inside memory: see proofs/Words.antt.
 use mathlib.Core.Path.{_∙_, sym}
 use lib.ListN.{length}
 use Rattle.evex.specs.Bits.{isSet}
@@ -6,17 +7,10 @@ use Rattle.step.proofs.Words.{Inside, inside}
 use borrow.Author.Needs.{needs}
 use Rattle.step.proofs.sources.memory_half.Statement.{statement}
 use Rattle.step.proofs.sources.memory_half.Tie as tie
-use Rattle.step.proofs.sources.memory_half.Reads as reads
-use Rattle.step.proofs.sources.memory_half.Lts as lts
-use Rattle.step.proofs.address.word_from.Reads as word-from-reads
-use Rattle.step.proofs.mask.has.Reads as has-reads
-use Rattle.step.proofs.sources.half_at.Reads as half-at-reads
 
--- src/sources.rt:55:8
 has-requires : tie.Need-has-requires
 has-requires c κs = search needs
 
--- src/sources.rt:56:32
 word-from-requires : tie.Need-word-from-requires
 word-from-requires c κs = search needs
 
@@ -32,11 +26,9 @@ known c =
 half-at-requires : tie.Need-half-at-requires
 half-at-requires c κs = rw (c .word-from .ensures) (known c .below)
 
--- src/sources.rt:56:9
 returns : tie.Need-returns
 returns c = rw (← c .before .before .before .has .ensures, c .before .before .if1 .taken, known (c .before) .plain, ← c .before .word-from .ensures) (c .half-at .ensures)
 
--- src/sources.rt:51:1
 returns-2 : tie.Need-returns-2
 returns-2 c = rw (← c .before .has .ensures, c .if1 .left)
 

@@ -1,3 +1,4 @@
+-- `step::sources::memory_halves` meets its contract: the loop fills the halves lane by lane.
 use Prim.Native.Nat.{_-_}
 use mathlib.Core.Path.{refl}
 use mathlib.Core.Bool.{cond}
@@ -8,9 +9,6 @@ use Rattle.step.specs.Work.{wordFrom, wordPlaces, halvesWhere}
 use Rattle.step.proofs.Filling.{Filled, none, more, all}
 use Rattle.step.proofs.sources.memory_halves.Statement.{statement}
 use Rattle.step.proofs.sources.memory_halves.Tie as tie
-use Rattle.step.proofs.sources.memory_halves.Reads as reads
-use Rattle.step.proofs.sources.memory_halves.Lts as lts
-use Rattle.step.proofs.sources.memory_half.Reads as memory-half-reads
 
 abbrev Inv-loop : tie.InvT-loop
 Inv-loop on memory at broadcast halves₀ j₀ halves j = Filled (λ k. cond (isSet on k) (numberAt memory (wordPlaces (wordFrom at broadcast k))) 0) 32 halves₀ halves j
@@ -18,35 +16,27 @@ Inv-loop on memory at broadcast halves₀ j₀ halves j = Filled (λ k. cond (is
 abbrev μ-loop : tie.MeasureT-loop
 μ-loop on memory at broadcast halves₀ j₀ halves j = 32 - j
 
--- src/sources.rt:66:5
 loop-holds : tie.Need-loop-holds Inv-loop μ-loop
 loop-holds c = none refl
 
--- src/sources.rt:67:21
 memory-half-requires : tie.Need-memory-half-requires Inv-loop μ-loop
 memory-half-requires c κs = (c .before .before .before .pre, omega arith)
 
--- src/sources.rt:67:9
 mul-halves : tie.Need-mul-halves Inv-loop μ-loop
 mul-halves c = omega arith
 
--- src/sources.rt:67:9
 array-write-halves : tie.Need-array-write-halves Inv-loop μ-loop
 array-write-halves c = omega arith
 
--- src/sources.rt:66:9
 add-j : tie.Need-add-j Inv-loop μ-loop
 add-j c = omega arith
 
--- src/sources.rt:66:5
 loop-less : tie.Need-loop-less Inv-loop μ-loop
 loop-less c = omega arith
 
--- src/sources.rt:66:5
 loop-again : tie.Need-loop-again Inv-loop μ-loop
 loop-again c = more (c .before .before .loop .inv) (omega arith) (c .memory-half .ensures)
 
--- src/sources.rt:61:1
 returns : tie.Need-returns Inv-loop μ-loop
 unfolding halvesWhere
 returns c = all (c .before .loop .inv) (c .loop-test .left)

@@ -1,3 +1,4 @@
+-- `step::sources::register_halves` meets its contract: the loop fills the halves lane by lane.
 use Prim.Native.Nat.{_-_}
 use mathlib.Core.Path.{refl}
 use mathlib.Core.Bool.{cond}
@@ -8,9 +9,6 @@ use Rattle.step.specs.Work.{halvesWhere}
 use Rattle.step.proofs.Filling.{Filled, none, more, all}
 use Rattle.step.proofs.sources.register_halves.Statement.{statement}
 use Rattle.step.proofs.sources.register_halves.Tie as tie
-use Rattle.step.proofs.sources.register_halves.Reads as reads
-use Rattle.step.proofs.sources.register_halves.Lts as lts
-use Rattle.step.proofs.sources.register_half.Reads as register-half-reads
 
 abbrev Inv-loop : tie.InvT-loop
 Inv-loop on vectors n halves₀ j₀ halves j = Filled (λ k. cond (isSet on k) (numberAt vectors (lanePlaces n k)) 0) 32 halves₀ halves j
@@ -18,35 +16,27 @@ Inv-loop on vectors n halves₀ j₀ halves j = Filled (λ k. cond (isSet on k) 
 abbrev μ-loop : tie.MeasureT-loop
 μ-loop on vectors n halves₀ j₀ halves j = 32 - j
 
--- src/sources.rt:45:5
 loop-holds : tie.Need-loop-holds Inv-loop μ-loop
 loop-holds c = none refl
 
--- src/sources.rt:46:21
 register-half-requires : tie.Need-register-half-requires Inv-loop μ-loop
 register-half-requires c κs = omega arith
 
--- src/sources.rt:46:9
 mul-halves : tie.Need-mul-halves Inv-loop μ-loop
 mul-halves c = omega arith
 
--- src/sources.rt:46:9
 array-write-halves : tie.Need-array-write-halves Inv-loop μ-loop
 array-write-halves c = omega arith
 
--- src/sources.rt:45:9
 add-j : tie.Need-add-j Inv-loop μ-loop
 add-j c = omega arith
 
--- src/sources.rt:45:5
 loop-less : tie.Need-loop-less Inv-loop μ-loop
 loop-less c = omega arith
 
--- src/sources.rt:45:5
 loop-again : tie.Need-loop-again Inv-loop μ-loop
 loop-again c = more (c .before .before .loop .inv) (omega arith) (c .register-half .ensures)
 
--- src/sources.rt:40:1
 returns : tie.Need-returns Inv-loop μ-loop
 unfolding halvesWhere
 returns c = all (c .before .loop .inv) (c .loop-test .left)

@@ -1,3 +1,4 @@
+-- `step::store::store` meets its contract: the register's 64 bytes are lent, and come back in their place.
 use Prim.Native.Nat.{_+_, _*_, _-_}
 use mathlib.Core.Path.{_≡_}
 use native.Mathlib.Omega.{arith}
@@ -6,39 +7,28 @@ use Rattle.step.proofs.Stored.{pasted}
 use borrow.Author.Needs.{needs}
 use Rattle.step.proofs.store.store.Statement.{statement}
 use Rattle.step.proofs.store.store.Tie as tie
-use Rattle.step.proofs.store.store.Reads as reads
-use Rattle.step.proofs.store.store.Lts as lts
-use Rattle.step.proofs.store.store_lanes.Reads as store-lanes-reads
 
--- src/store.rt:47:14
 mul-at : tie.Need-mul-at
 mul-at c = search needs
 
--- src/store.rt:48:15
 add-end : tie.Need-add-end
 add-end c = search needs
 
--- src/store.rt:49:17
 sub-store-lanes : tie.Need-sub-store-lanes
 sub-store-lanes c = search needs
 
--- src/store.rt:49:17
 part-store-lanes-start : tie.Need-part-store-lanes-start
 part-store-lanes-start c = search needs
 
--- src/store.rt:49:17
 part-store-lanes-end : tie.Need-part-store-lanes-end
 part-store-lanes-end c = search needs
 
--- src/store.rt:49:5
 store-lanes-requires : tie.Need-store-lanes-requires
 store-lanes-requires c κs = search needs
 
--- src/store.rt:43:1
 same-length : tie.Need-same-length
 same-length c = search needs
 
--- src/store.rt:43:1
 returns : tie.Need-returns
 returns c = let e : c .before .before .before .before .before .args .n * 64 + 64 - c .before .before .before .before .before .args .n * 64 ≡ 64 = omega arith in
     rw (c .before .before .store-lanes .ensures, e) (pasted (isSet (c .before .before .before .before .before .args .kept)) (c .before .before .before .before .before .args .halves) (c .before .before .before .before .before .args .vectors .now) (c .before .before .before .before .before .args .n))

@@ -1,3 +1,4 @@
+-- `step::store::store_lanes` meets its contract: the loop fills the register by two bytes a lane: see proofs/Stored.antt.
 use mathlib.Core.Path.{sym, _∙_}
 use Prim.Native.Nat.{_*_, _-_}
 use native.Mathlib.Omega.{arith}
@@ -7,10 +8,6 @@ use Rattle.step.proofs.Filling.{Filled, none, all}
 use Rattle.step.proofs.Stored.{next}
 use Rattle.step.proofs.store.store_lanes.Statement.{statement}
 use Rattle.step.proofs.store.store_lanes.Tie as tie
-use Rattle.step.proofs.store.store_lanes.Reads as reads
-use Rattle.step.proofs.store.store_lanes.Lts as lts
-use Rattle.step.proofs.mask.has.Reads as has-reads
-use Rattle.step.proofs.store.store_lane.Reads as store-lane-reads
 
 abbrev Inv-loop : tie.InvT-loop
 Inv-loop register₀ kept halves j₀ register j = Filled (byteWhere (isSet kept) halves register₀) 64 register₀ register (2 * j)
@@ -18,43 +15,33 @@ Inv-loop register₀ kept halves j₀ register j = Filled (byteWhere (isSet kept
 abbrev μ-loop : tie.MeasureT-loop
 μ-loop register₀ kept halves j₀ register j = 32 - j
 
--- src/store.rt:38:5
 loop-holds : tie.Need-loop-holds Inv-loop μ-loop
 loop-holds c = none (c .before .pre)
 
--- src/store.rt:39:30
 has-requires : tie.Need-has-requires Inv-loop μ-loop
 has-requires c κs = omega arith
 
--- src/store.rt:39:44
 mul-store-lane : tie.Need-mul-store-lane Inv-loop μ-loop
 mul-store-lane c = omega arith
 
--- src/store.rt:39:44
 array-read-store-lane : tie.Need-array-read-store-lane Inv-loop μ-loop
 array-read-store-lane c = omega arith
 
--- src/store.rt:39:9
 store-lane-requires : tie.Need-store-lane-requires Inv-loop μ-loop
 store-lane-requires c κs = (c .before .before .before .loop .inv .size, omega arith)
 
--- src/store.rt:38:9
 add-j : tie.Need-add-j Inv-loop μ-loop
 add-j c = omega arith
 
--- src/store.rt:38:5
 loop-less : tie.Need-loop-less Inv-loop μ-loop
 loop-less c = omega arith
 
--- src/store.rt:38:5
 loop-again : tie.Need-loop-again Inv-loop μ-loop
 loop-again c = next (isSet (c .before .before .before .before .before .before .before .before .args .kept)) (c .before .before .before .before .before .before .before .before .args .t3) (c .before .before .before .before .before .before .before .before .args .register .now) (c .before .before .before .before .before .before .loop .j) (c .before .before .before .before .before .before .loop .inv) (omega arith) (rw (c .before .before .before .has .ensures) at (c .before .before .store-lane .ensures))
 
--- src/store.rt:34:1
 same-length : tie.Need-same-length Inv-loop μ-loop
 same-length c = c .before .loop .inv .size ∙ sym (c .before .before .before .pre)
 
--- src/store.rt:34:1
 returns : tie.Need-returns Inv-loop μ-loop
 unfolding storedBytes
 returns c = all (c .before .loop .inv) (omega arith)

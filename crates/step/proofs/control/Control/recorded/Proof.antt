@@ -1,27 +1,20 @@
+-- `step::control::Control::recorded` meets its contract: by the kind of rounding.
 use borrow.Author.Needs.{needs}
 use Rattle.step.proofs.control.Control.recorded.Statement.{statement}
 use Rattle.step.proofs.control.Control.recorded.Tie as tie
-use Rattle.step.proofs.control.Control.recorded.Reads as reads
-use Rattle.step.proofs.control.Control.recorded.Lts as lts
-use Rattle.step.proofs.control.Control.with_flags.Reads as with-flags-reads
 
--- src/control.rt:68:34
 enum-told : tie.Need-enum-told
 enum-told c = search needs
 
--- src/control.rt:68:34
 with-flags-requires : tie.Need-with-flags-requires
 with-flags-requires c κs = search needs
 
--- src/control.rt:69:38
 enum-told-2 : tie.Need-enum-told-2
 enum-told-2 c = search needs
 
--- src/control.rt:64:5
 returns : tie.Need-returns
 returns c = rw (c .before .enum-told .given .1) (c .with-flags .ensures)
 
--- src/control.rt:64:5
 returns-2 : tie.Need-returns-2
 returns-2 c = rw (c .enum-told2 .given .1)
 
