@@ -1,6 +1,6 @@
 -- The operations on numbers: the mode's number read, and the answer made.
 use Prim.Native.Nat.{ℕ}
-use mathlib.Core.Path.{_≡_, refl, sym, ap, _∙_}
+use mathlib.Core.Path.{_≡_}
 use Rattle.half.specs.Numbers.{modeOf, answered}
 use Rattle.half.specs.declared.Mode.{Mode}
 use Rattle.half.specs.declared.ModeNumber.{ModeNumber}

@@ -1,7 +1,7 @@
 -- The rounding that is defined, and as the code works it out: from the place among the multiples of 2 ^ -26.
-use Prim.Native.Nat.{ℕ, zero, suc, _+_, _-_, _*_, _/_, _%_, _^_, _≤_, _<_, compare, Ordering, Ordering·lt, Ordering·eq, Ordering·gt}
+use Prim.Native.Nat.{ℕ, zero, suc, _+_, _-_, _*_, _/_, _%_, _^_, _≤_, _<_, compare, Ordering}
 use mathlib.Core.Bool.{Bool, true, false, not, _&&_, _||_, cond}
-use mathlib.Core.Path.{_≡_, refl, sym, ap, _∙_, subst}
+use mathlib.Core.Path.{_≡_, refl, sym, ap, _∙_}
 use native.Mathlib.Omega.{arith}
 use native.Mathlib.Nat.{mul-assoc, mul-comm, mul-pos, mul-le-mul, mul-le-mul-right, mul-lt-mul-of-pos-right, le-trans, le-of-eq, lt-of-lt-of-le, lt-of-le-of-lt, not-le-of-lt, mul-one, one-mul, zero-mul, mod-lt, pow-succ'}
 use lib.Bits.{bitOr}
@@ -18,7 +18,7 @@ use Rattle.half.specs.declared.Mode.{Mode}
 use Rattle.half.specs.declared.Outcome.{Outcome}
 use Rattle.half.proofs.Compare.{and-false, cmp-scale, same-le, same-lt, same-ge, same-below}
 use Rattle.half.proofs.Places.{size-is, size-shift, size-large, place-two, place-ge, place-lt, place-cut}
-use Rattle.half.proofs.Cuts.{left, right, weight, against-is, against-scale, left-scale, right-scale, weight-pos, right-mono, whole-spec, whole-is, whole-le, whole-ge, whole-scale, roundTo-scale, roundTo-same, roundTo-ge, roundTo-le, roundTo-exact, scale-lt, lt-scale, ge-scale}
+use Rattle.half.proofs.Cuts.{left, right, weight, against-is, against-scale, left-scale, weight-pos, right-mono, whole-spec, whole-is, whole-le, whole-ge, whole-scale, roundTo-scale, roundTo-same, roundTo-ge, roundTo-le, roundTo-exact, scale-lt, lt-scale, ge-scale}
 
 -- ---- the fields of q * 2 ^ k
 pub encode-is : (k q : ℕ) → q ≤ 2048 → (q < 1024 → k ≡ 0) → encode (q * 2 ^ k) ≡ k * 1024 + q

@@ -2,10 +2,10 @@
 use Prim.Native.Nat.{ℕ, _*_, _^_}
 use mathlib.Core.Bool.{Bool, true, false, not, _&&_, _||_, cond}
 use mathlib.Core.List.{[], _∷_}
-use mathlib.Core.Path.{_≡_, refl, sym, ap, _∙_}
+use mathlib.Core.Path.{_≡_, refl, sym, _∙_}
 use Rattle.half.specs.Format.{isFinite, isInfinite, isNan, isSignalling, isSubnormal, isZero, negative, units}
 use Rattle.half.specs.Exact.{fraction, rootOf}
-use Rattle.half.specs.Round.{IE, flag, roundedHalf}
+use Rattle.half.specs.Round.{roundedHalf}
 use Rattle.half.specs.Operations.{some, nanResult, withDenormals, unlike, exactSum, halfAdd, halfMultiply, halfDivide, halfRoot, halfMultiplyAdd}
 use Rattle.half.specs.declared.Mode.{Mode}
 use Rattle.half.proofs.Compare.{and-false, or-left, or-right}

@@ -1,7 +1,7 @@
 -- Laws of places and of the number of digits.
-use Prim.Native.Nat.{ℕ, zero, suc, _+_, _-_, _*_, _/_, _%_, _^_, _≤_, _<_, min, compare, Ordering, Ordering·lt, Ordering·eq, Ordering·gt}
-use mathlib.Core.Bool.{Bool, true, false, cond}
-use mathlib.Core.Path.{_≡_, refl, sym, ap, _∙_, subst}
+use Prim.Native.Nat.{ℕ, zero, suc, _+_, _-_, _*_, _/_, _%_, _^_, _≤_, _<_, compare, Ordering, Ordering·lt, Ordering·eq, Ordering·gt}
+use mathlib.Core.Bool.{Bool, true, false}
+use mathlib.Core.Path.{_≡_, refl, sym, ap, _∙_}
 use native.Mathlib.Omega.{arith}
 use native.Mathlib.Nat.{div-one, mod-one, mod-eq-of-lt, pow-succ', add-zero, mul-pos, mul-div-mul-right, mul-div-cancel, mul-mod-left, div-div-eq-div-mul, mod-lt, div-add-mod', mul-comm, le-antisymm, le-of-lt, le-of-eq, le-trans, lt-of-lt-of-le, le-of-suc-le-suc, lt-of-not-le, not-le-of-lt, div-lt-iff-lt-mul, le-div-iff-mul-le, div-eq-of-lt, mul-le-mul}
 use lib.Dec.{leb}

@@ -1,6 +1,6 @@
 -- Quotients as the code works them out: the place of x / y among the multiples of 2 ^ -26, in 64 bits.
 use Prim.Native.Nat.{ℕ, _+_, _*_, _/_, _%_, _^_, _<_}
-use mathlib.Core.Path.{_≡_, refl, ap, _∙_}
+use mathlib.Core.Path.{_≡_, ap, _∙_}
 use native.Mathlib.Omega.{arith}
 use native.Mathlib.Nat.{mul-add-div-right, mul-add-mod-self-right, div-add-mod', mod-lt, div-lt-iff-lt-mul}
 use Rattle.half.specs.Work.{more, place}

@@ -3,10 +3,10 @@ use Prim.Native.Nat.{ℕ, zero, suc, _+_, _-_, _*_, _/_, _%_, _^_, _≤_, _<_, c
 use mathlib.Core.Bool.{Bool, true, false, cond}
 use mathlib.Core.Path.{_≡_, refl, sym, ap, _∙_, subst}
 use native.Mathlib.Omega.{arith}
-use native.Mathlib.Nat.{two-pow-succ, one-mul, not-suc-le-zero, sub-self, mul-mod-left, le-of-sub-eq-zero, sub-eq-zero-of-le, mul-pos, div-add-mod', mod-lt, le-antisymm, lt-of-not-le, not-le-of-lt, lt-of-lt-of-le, lt-of-le-of-lt, le-of-lt, le-trans, le-of-eq, mul-le-mul, le-of-mul-le-mul-right, lt-of-mul-lt-mul-right, mul-mul-mul-comm, pow-succ', le-of-suc-le-suc, mul-assoc, mul-div-cancel, le-div-iff-mul-le, div-lt-iff-lt-mul, mul-comm, add-comm}
+use native.Mathlib.Nat.{sub-self, mul-mod-left, le-of-sub-eq-zero, sub-eq-zero-of-le, mul-pos, div-add-mod', mod-lt, le-antisymm, lt-of-not-le, not-le-of-lt, lt-of-lt-of-le, lt-of-le-of-lt, le-of-lt, le-trans, le-of-eq, mul-le-mul, le-of-mul-le-mul-right, lt-of-mul-lt-mul-right, mul-mul-mul-comm, pow-succ', le-of-suc-le-suc, mul-assoc, mul-div-cancel, le-div-iff-mul-le, div-lt-iff-lt-mul, mul-comm, add-comm}
 use lib.Dec.{leb}
 use lib.Arith.{digits-div, digits-mod}
-use lib.Pow.{shl-exact, shl-lt, pow-add, pow-mono, pow-pos}
+use lib.Pow.{shl-lt, pow-add, pow-mono, pow-pos}
 use lib.Ieee.{size}
 use lib.Ieee.Digits.{size-lt, size-le, size-reaches}
 use borrow.Author.Tests.{leb-true, leb-false}

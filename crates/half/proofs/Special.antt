@@ -10,8 +10,8 @@ use Rattle.half.specs.Round.{DE, ZE, flag, result}
 use Rattle.half.specs.Operations.{some, nanResult, invalid, unlike, halfAdd, halfSubtract, halfMultiply, halfDivide, halfRoot, halfMultiplyAdd}
 use Rattle.half.specs.declared.Mode.{Mode}
 use Rattle.half.specs.declared.Outcome.{Outcome}
-use Rattle.half.proofs.Compare.{or-left, or-right, or-false}
-use Rattle.half.proofs.Units.{must-be-infinite, finite-no-infinity}
+use Rattle.half.proofs.Compare.{or-left, or-right}
+use Rattle.half.proofs.Units.{must-be-infinite}
 use Rattle.half.proofs.Cases.{again, nan-again, nan-thrice}
 
 -- ---- tests of operands of which the last comes again

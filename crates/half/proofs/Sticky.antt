@@ -1,12 +1,12 @@
 -- Rounding turns on the place among the multiples of 2 ^ -26 alone: what lies below may be joined to one bit. What the operations' proofs cite.
-use Prim.Native.Nat.{ℕ, zero, suc, _+_, _-_, _*_, _/_, _%_, _^_, _≤_, _<_, compare}
-use mathlib.Core.Bool.{Bool, true, false, not, _&&_, _||_, cond, Bool·beq}
+use Prim.Native.Nat.{ℕ, suc, _+_, _-_, _*_, _/_, _%_, _^_, _≤_, _<_, compare}
+use mathlib.Core.Bool.{Bool, true, false}
 use mathlib.Core.Path.{_≡_, refl, sym, ap, _∙_, subst}
 use native.Mathlib.Omega.{arith}
 use native.Mathlib.Nat.{add-mul, mul-assoc, mul-pos, mul-comm, mul-right-comm, mul-sub, mul-le-mul-right, mul-lt-mul-of-pos-right, lt-of-not-le, not-le-of-lt, lt-of-lt-of-le, le-trans, le-of-eq, le-of-suc-le-suc, le-div-iff-mul-le, pow-succ', mod-eq-of-lt}
 use lib.Bits.{bitOr}
-use lib.Dec.{leb, ltb}
-use lib.Pow.{pow-pos, pow-mono, pow-add, shl-exact}
+use lib.Dec.{ltb}
+use lib.Pow.{pow-pos, pow-add, shl-exact}
 use lib.Ieee.{size}
 use lib.Ieee.Digits.{size-lt, size-le, size-reaches}
 use borrow.Author.Tests.{lt-ltb, le-ltb, le-leb, ltb-true, ltb-false}

@@ -2,7 +2,7 @@
 use Prim.Native.Nat.{ℕ, _+_, _-_, _*_, _^_, _≤_, _<_}
 use mathlib.Core.Bool.{Bool, true, false, not, _&&_, cond, Bool·beq}
 use mathlib.Core.List.{[], _∷_}
-use mathlib.Core.Path.{_≡_, refl, sym, ap, _∙_}
+use mathlib.Core.Path.{_≡_, refl, sym, _∙_}
 use native.Mathlib.Omega.{arith}
 use lib.Bits.{bitOr}
 use lib.Dec.{ltb, eqb}
@@ -10,7 +10,7 @@ use borrow.Author.Tests.{lt-ltb, le-ltb, ltb-true, ltb-false, eqb-true, eqb-fals
 use Rattle.half.specs.Format.{isSubnormal, negative, units}
 use Rattle.half.specs.Exact.{fraction}
 use Rattle.half.specs.Round.{DE, flag, result, roundedHalf}
-use Rattle.half.specs.Operations.{some, cancelled, exactly, withDenormals, unlike, exactSum}
+use Rattle.half.specs.Operations.{some, cancelled, withDenormals, unlike, exactSum}
 use Rattle.half.specs.Work.{place}
 use Rattle.half.specs.declared.Mode.{Mode}
 use Rattle.half.specs.declared.Outcome.{Outcome}

@@ -1,14 +1,13 @@
 -- The kinds of halves, and how large their numbers are.
-use Prim.Native.Nat.{ℕ, zero, suc, _+_, _-_, _*_, _/_, _%_, _^_, _≤_, _<_}
-use mathlib.Core.Bool.{Bool, true, false, not, _&&_, _||_, cond}
-use mathlib.Core.Path.{_≡_, refl, sym, ap, _∙_}
+use Prim.Native.Nat.{ℕ, _+_, _-_, _*_, _%_, _^_, _≤_, _<_}
+use mathlib.Core.Bool.{Bool, true, false, not, _&&_, cond}
+use mathlib.Core.Path.{_≡_, refl}
 use native.Mathlib.Omega.{arith}
 use native.Mathlib.Nat.{lt-of-lt-of-le, mul-pos, mul-le-mul}
 use lib.Dec.{eqb}
 use lib.Pow.{pow-pos, pow-mono, shl-lt, shl-exact}
 use borrow.Author.Tests.{eqb-false, not-true}
 use Rattle.half.specs.Format.{exponentField, fractionField, significand, units, isFinite, isInfinite, isNan, isZero}
-use Rattle.half.proofs.Compare.{and-false}
 
 -- ---- kinds
 

@@ -4,6 +4,7 @@ ghost use Prim.Native.Nat.{_<_, _≤_, _+_, _-_, _^_};
 ghost use mathlib.Core.Bool.{Bool, false, _&&_, cond};
 ghost use lib.Dec.{ltb};
 ghost use Rattle.half.specs.Format.{isFinite};
+ghost use Rattle.half.specs.Work.{place};
 ghost use Rattle.half.specs.Operations.{cancelled, exactSum, halfAdd, halfSubtract};
 use super::Mode;
 use super::Outcome;
@@ -44,6 +45,17 @@ fn sign_of_larger(sx: bool, x: u64, sy: bool, y: u64) -> bool
     if x < y { sy } else { sx }
 }
 
+// The place of m / 2^k. For k = 1, which most sums come with, it is m itself.
+fn place_of_sum(m: u64, k: u32) -> u64
+    requires { ⌜ (1 ≤ k) × (k < 64) ⌝ }
+    ensures { λ r. ⌜ r ≡ place m (2 ^ k) ⌝ }
+{
+    if k == 1 {
+        return m;
+    }
+    rounding::place_of(m, k)
+}
+
 // ±x / 2^(26 + k) and ±y / 2^(26 + k) added and rounded.
 pub fn finite_sum(mode: Mode, unmasked: bool, sx: bool, x: u64, sy: bool, y: u64, k: u32) -> Outcome
     requires { ⌜ (x + y < 2 ^ 64) × (1 ≤ k) × (k < 64) ⌝ }
@@ -58,7 +70,7 @@ pub fn finite_sum(mode: Mode, unmasked: bool, sx: bool, x: u64, sy: bool, y: u64
         };
     }
     let neg = sign_of_larger(sx, x, sy, y);
-    rounding::round(mode, unmasked, neg, rounding::place_of(m, k))
+    rounding::round(mode, unmasked, neg, place_of_sum(m, k))
 }
 
 // A sum with a NaN or an infinity, which turns on no mode.

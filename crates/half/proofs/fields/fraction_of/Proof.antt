@@ -1,10 +1,7 @@
 use lib.Bits.{and-mask}
 use Rattle.half.proofs.fields.fraction_of.Statement.{statement}
 use Rattle.half.proofs.fields.fraction_of.Tie as tie
-use Rattle.half.proofs.fields.fraction_of.Reads as reads
-use Rattle.half.proofs.fields.fraction_of.Lts as lts
 
--- src/fields.rt:18:1
 returns : tie.Need-returns
 returns c = and-mask _ 10
 

@@ -1,35 +1,25 @@
-use mathlib.Core.Path.{_∙_}
 use Prim.Native.Nat.{_-_}
 use native.Mathlib.Omega.{arith}
 use Rattle.half.proofs.Scales.{diff-lit, sub-fits, sub-whole}
 use borrow.Author.Needs.{needs}
 use Rattle.half.proofs.fields.scale_of.Statement.{statement}
 use Rattle.half.proofs.fields.scale_of.Tie as tie
-use Rattle.half.proofs.fields.scale_of.Reads as reads
-use Rattle.half.proofs.fields.scale_of.Lts as lts
-use Rattle.half.proofs.fields.exponent_of.Reads as exponent-of-reads
 
--- src/fields.rt:71:9
 exponent-of-requires : tie.Need-exponent-of-requires
 exponent-of-requires c κs = search needs
 
--- src/fields.rt:73:9
 returns : tie.Need-returns
 returns c = rw (← (c .before .exponent-of .ensures), c .if1 .taken)
 
--- src/fields.rt:75:6
 sub-result : tie.Need-sub-result
 sub-result c = search needs
 
--- src/fields.rt:75:5
 cast-result : tie.Need-cast-result
 cast-result c = search needs
 
--- src/fields.rt:75:5
 sub-result-2 : tie.Need-sub-result-2
 sub-result-2 c = rw (diff-lit (c .before .exponent-of .result - 1) 23 (omega arith)) (sub-fits (c .before .exponent-of .result - 1) 24 (omega arith) (omega arith))
 
--- src/fields.rt:68:1
 returns-2 : tie.Need-returns-2
 returns-2 c = rw (← (c .before .exponent-of .ensures), diff-lit (c .before .exponent-of .result - 1) 23 (omega arith)) (sub-whole (c .before .exponent-of .result - 1) 24 (omega arith) (omega arith))
 

@@ -1,18 +1,13 @@
 use borrow.Author.Needs.{needs}
 use Rattle.half.proofs.fields.with_sign.Statement.{statement}
 use Rattle.half.proofs.fields.with_sign.Tie as tie
-use Rattle.half.proofs.fields.with_sign.Reads as reads
-use Rattle.half.proofs.fields.with_sign.Lts as lts
 
--- src/fields.rt:91:14
 add-result : tie.Need-add-result
 add-result c = search needs
 
--- src/fields.rt:87:1
 returns : tie.Need-returns
 returns c = rw (c .if1 .taken)
 
--- src/fields.rt:87:1
 returns-2 : tie.Need-returns-2
 returns-2 c = rw (c .if1 .left)
 

@@ -5,39 +5,25 @@ use Rattle.half.proofs.Cases.{third, finite-multiply-add}
 use borrow.Author.Needs.{needs}
 use Rattle.half.proofs.fused.multiply_add.Statement.{statement}
 use Rattle.half.proofs.fused.multiply_add.Tie as tie
-use Rattle.half.proofs.fused.multiply_add.Reads as reads
-use Rattle.half.proofs.fused.multiply_add.Lts as lts
-use Rattle.half.proofs.fused.finite_fused.Reads as finite-fused-reads
-use Rattle.half.proofs.fused.special_fused.Reads as special-fused-reads
-use Rattle.half.proofs.operands.all_finite.Reads as all-finite-reads
-use Rattle.half.proofs.operands.denormal_flag.Reads as denormal-flag-reads
-use Rattle.half.proofs.operands.with_flags.Reads as with-flags-reads
 
--- src/fused.rt:60:9
 all-finite-requires : tie.Need-all-finite-requires
 all-finite-requires c κs = search needs
 
--- src/fused.rt:61:9
 special-fused-requires : tie.Need-special-fused-requires
 special-fused-requires c κs = sym (c .before .all-finite .ensures) ∙ not-true (c .before .all-finite .result) (c .if1 .taken)
 
--- src/fused.rt:61:9
 returns : tie.Need-returns
 returns c = c .special-fused .ensures _ _
 
--- src/fused.rt:63:9
 finite-fused-requires : tie.Need-finite-fused-requires
 finite-fused-requires c κs = finite-le (c .before .before .args .c) (third (c .before .before .args .mode) (c .before .before .args .unmasked) (c .before .before .args .a) (c .before .before .args .b) (c .before .before .args .c) (sym (c .before .all-finite .ensures) ∙ not-false (c .before .all-finite .result) (c .if1 .left)))
 
--- src/fused.rt:64:26
 denormal-flag-requires : tie.Need-denormal-flag-requires
 denormal-flag-requires c κs = search needs
 
--- src/fused.rt:64:5
 with-flags-requires : tie.Need-with-flags-requires
 with-flags-requires c κs = search needs
 
--- src/fused.rt:57:1
 returns-2 : tie.Need-returns-2
 returns-2 c = c .with-flags .ensures ∙ rw (c .before .denormal-flag .ensures, c .before .before .finite-fused .ensures) (sym (finite-multiply-add _ _ (c .before .before .before .before .before .args .a) (c .before .before .before .before .before .args .b) (c .before .before .before .before .before .args .c) (sym (c .before .before .before .before .all-finite .ensures) ∙ not-false (c .before .before .before .before .all-finite .result) (c .before .before .before .if1 .left))))
 

@@ -2,30 +2,23 @@ use borrow.Author.Tests.{ne-eqb}
 use Rattle.half.specs.Numbers.{modeOf}
 use Rattle.half.proofs.numbers.mode_of.Statement.{statement}
 use Rattle.half.proofs.numbers.mode_of.Tie as tie
-use Rattle.half.proofs.numbers.mode_of.Reads as reads
-use Rattle.half.proofs.numbers.mode_of.Lts as lts
 
--- src/numbers.rt:16:1
 returns : tie.Need-returns
 unfolding modeOf
 returns c = rw (c .match .keys1)
 
--- src/numbers.rt:16:1
 returns-2 : tie.Need-returns-2
 unfolding modeOf
 returns-2 c = rw (c .match .keys2)
 
--- src/numbers.rt:16:1
 returns-3 : tie.Need-returns-3
 unfolding modeOf
 returns-3 c = rw (c .match .keys3)
 
--- src/numbers.rt:16:1
 returns-4 : tie.Need-returns-4
 unfolding modeOf
 returns-4 c = rw (c .match .keys4)
 
--- src/numbers.rt:16:1
 returns-5 : tie.Need-returns-5
 unfolding modeOf
 returns-5 c = rw (ne-eqb _ 0 (c .match .rest .0 .0 .0 .1), ne-eqb _ 1 (c .match .rest .0 .0 .1), ne-eqb _ 2 (c .match .rest .0 .1), ne-eqb _ 3 (c .match .rest .1))

@@ -2,42 +2,28 @@ use Rattle.half.proofs.Answers.{answer-nine, answer-done}
 use borrow.Author.Needs.{needs}
 use Rattle.half.proofs.numbers.multiply_add.Statement.{statement}
 use Rattle.half.proofs.numbers.multiply_add.Tie as tie
-use Rattle.half.proofs.numbers.multiply_add.Reads as reads
-use Rattle.half.proofs.numbers.multiply_add.Lts as lts
-use Rattle.half.proofs.fused.multiply_add.Reads as multiply-add-reads
-use Rattle.half.proofs.numbers.done.Reads as done-reads
-use Rattle.half.proofs.numbers.mode_of.Reads as mode-of-reads
-use Rattle.half.proofs.numbers.refused.Reads as refused-reads
 
--- src/numbers.rt:97:32
 mode-of-requires : tie.Need-mode-of-requires
 mode-of-requires c κs = search needs
 
--- src/numbers.rt:97:27
 enum-known-m : tie.Need-enum-known-m
 enum-known-m c = search needs
 
--- src/numbers.rt:98:9
 enum-told : tie.Need-enum-told
 enum-told c = search needs
 
--- src/numbers.rt:98:9
 refused-requires : tie.Need-refused-requires
 refused-requires c κs = search needs
 
--- src/numbers.rt:98:9
 returns : tie.Need-returns
 returns c = answer-nine (c .before .before .before .before .args .mode) _ (c .before .before .before .mode-of .ensures) (c .before .enum-told .given .1) (c .refused .ensures)
 
--- src/numbers.rt:100:10
 multiply-add-requires : tie.Need-multiply-add-requires
 multiply-add-requires c κs = search needs
 
--- src/numbers.rt:100:5
 done-requires : tie.Need-done-requires
 done-requires c κs = search needs
 
--- src/numbers.rt:94:1
 returns-2 : tie.Need-returns-2
 returns-2 c = answer-done (c .before .before .before .before .before .before .args .mode) _ (c .before .before .before .before .before .mode-of .ensures) _ (c .before .before .before .m .given .1) (c .before .multiply-add .ensures) (c .done .ensures)
 

@@ -2,28 +2,19 @@ use Rattle.half.proofs.Compare.{or-false}
 use borrow.Author.Needs.{needs}
 use Rattle.half.proofs.operands.invalid_flag.Statement.{statement}
 use Rattle.half.proofs.operands.invalid_flag.Tie as tie
-use Rattle.half.proofs.operands.invalid_flag.Reads as reads
-use Rattle.half.proofs.operands.invalid_flag.Lts as lts
-use Rattle.half.proofs.fields.signalling.Reads as signalling-reads
-use Rattle.half.proofs.operands.flag_if.Reads as flag-if-reads
 
--- src/operands.rt:34:15
 signalling-requires : tie.Need-signalling-requires
 signalling-requires c κs = search needs
 
--- src/operands.rt:34:40
 signalling-requires-2 : tie.Need-signalling-requires-2
 signalling-requires-2 c κs = search needs
 
--- src/operands.rt:34:64
 signalling-requires-3 : tie.Need-signalling-requires-3
 signalling-requires-3 c κs = search needs
 
--- src/operands.rt:35:5
 flag-if-requires : tie.Need-flag-if-requires
 flag-if-requires c κs = search needs
 
--- src/operands.rt:31:1
 returns : tie.Need-returns
 returns c = rw (c .flag-if .ensures, c .before .before .before .signalling .ensures, c .before .before .signalling2 .ensures, c .before .signalling3 .ensures, or-false)
 

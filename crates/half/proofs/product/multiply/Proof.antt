@@ -5,49 +5,31 @@ use Rattle.half.proofs.Sums.{beside, product-rounded}
 use borrow.Author.Needs.{needs}
 use Rattle.half.proofs.product.multiply.Statement.{statement}
 use Rattle.half.proofs.product.multiply.Tie as tie
-use Rattle.half.proofs.product.multiply.Reads as reads
-use Rattle.half.proofs.product.multiply.Lts as lts
-use Rattle.half.proofs.operands.all_finite.Reads as all-finite-reads
-use Rattle.half.proofs.operands.denormal_flag.Reads as denormal-flag-reads
-use Rattle.half.proofs.operands.unlike_signs.Reads as unlike-signs-reads
-use Rattle.half.proofs.operands.with_flags.Reads as with-flags-reads
-use Rattle.half.proofs.product.product_place.Reads as product-place-reads
-use Rattle.half.proofs.product.special_product.Reads as special-product-reads
-use Rattle.half.proofs.rounding.round.Reads as round-reads
 
--- src/product.rt:81:9
 all-finite-requires : tie.Need-all-finite-requires
 all-finite-requires c κs = search needs
 
--- src/product.rt:82:9
 special-product-requires : tie.Need-special-product-requires
 special-product-requires c κs = sym (c .before .all-finite .ensures) ∙ not-true (c .before .all-finite .result) (c .if1 .taken)
 
--- src/product.rt:82:9
 returns : tie.Need-returns
 returns c = c .special-product .ensures _ _
 
--- src/product.rt:84:9
 unlike-signs-requires : tie.Need-unlike-signs-requires
 unlike-signs-requires c κs = search needs
 
--- src/product.rt:85:50
 product-place-requires : tie.Need-product-place-requires
 product-place-requires c κs = search needs
 
--- src/product.rt:85:9
 round-requires : tie.Need-round-requires
 round-requires c κs = search needs
 
--- src/product.rt:86:26
 denormal-flag-requires : tie.Need-denormal-flag-requires
 denormal-flag-requires c κs = search needs
 
--- src/product.rt:86:5
 with-flags-requires : tie.Need-with-flags-requires
 with-flags-requires c κs = search needs
 
--- src/product.rt:78:1
 returns-2 : tie.Need-returns-2
 returns-2 c = beside (c .before .before .before .before .before .before .before .args .a) (c .before .before .before .before .before .before .before .args .b) (c .before .denormal-flag .ensures) (c .with-flags .ensures) (product-rounded (c .before .before .before .before .before .before .before .args .mode) (c .before .before .before .before .before .before .before .args .unmasked) (c .before .before .before .before .before .before .before .args .a) (c .before .before .before .before .before .before .before .args .b) (c .before .before .before .before .unlike-signs .ensures) (c .before .before .before .product-place .ensures) (c .before .before .round .ensures)) ∙ sym (finite-multiply _ _ (c .before .before .before .before .before .before .before .args .a) (c .before .before .before .before .before .before .before .args .b) (sym (c .before .before .before .before .before .before .all-finite .ensures) ∙ not-false (c .before .before .before .before .before .before .all-finite .result) (c .before .before .before .before .before .if1 .left)))
 

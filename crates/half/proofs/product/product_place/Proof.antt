@@ -4,36 +4,25 @@ use Rattle.half.proofs.Scales.{up-place, down-place}
 use borrow.Author.Needs.{needs}
 use Rattle.half.proofs.product.product_place.Statement.{statement}
 use Rattle.half.proofs.product.product_place.Tie as tie
-use Rattle.half.proofs.product.product_place.Reads as reads
-use Rattle.half.proofs.product.product_place.Lts as lts
-use Rattle.half.proofs.product.scaled_product.Reads as scaled-product-reads
-use Rattle.half.proofs.rounding.place_of.Reads as place-of-reads
 
--- src/product.rt:51:9
 scaled-product-requires : tie.Need-scaled-product-requires
 scaled-product-requires c κs = search needs
 
--- src/product.rt:53:17
 mul-result : tie.Need-mul-result
 mul-result c = omega (arith, c .before .before .scaled-product .ensures .small)
 
--- src/product.rt:53:39
 cast-result : tie.Need-cast-result
 cast-result c = search needs
 
--- src/product.rt:53:16
 shl-result : tie.Need-shl-result
 shl-result c = omega (arith, c .before .before .before .scaled-product .ensures .up (c .before .before .if1 .taken))
 
--- src/product.rt:53:9
 returns : tie.Need-returns
 returns c = up-place (c .before .before .before .scaled-product .ensures) (c .before .before .if1 .taken)
 
--- src/product.rt:55:5
 place-of-requires : tie.Need-place-of-requires
 place-of-requires c κs = omega (arith, c .before .scaled-product .ensures .down (c .if1 .left))
 
--- src/product.rt:48:1
 returns-2 : tie.Need-returns-2
 returns-2 c = c .place-of .ensures ∙ down-place (c .before .before .scaled-product .ensures) (c .before .if1 .left)
 

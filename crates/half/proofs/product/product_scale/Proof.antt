@@ -4,27 +4,19 @@ use Rattle.half.proofs.Scales.{two-fits, three, three-fits}
 use borrow.Author.Needs.{needs}
 use Rattle.half.proofs.product.product_scale.Statement.{statement}
 use Rattle.half.proofs.product.product_scale.Tie as tie
-use Rattle.half.proofs.product.product_scale.Reads as reads
-use Rattle.half.proofs.product.product_scale.Lts as lts
-use Rattle.half.proofs.fields.scale_of.Reads as scale-of-reads
 
--- src/product.rt:25:5
 scale-of-requires : tie.Need-scale-of-requires
 scale-of-requires c κs = search needs
 
--- src/product.rt:25:27
 scale-of-requires-2 : tie.Need-scale-of-requires-2
 scale-of-requires-2 c κs = search needs
 
--- src/product.rt:25:5
 add-result : tie.Need-add-result
 add-result c = two-fits (c .before .before .args .a) (c .before .before .args .b) (c .before .scale-of .ensures) (c .scale-of2 .ensures)
 
--- src/product.rt:25:5
 add-result-2 : tie.Need-add-result-2
 add-result-2 c = three-fits (c .before .before .args .a) (c .before .before .args .b) (c .before .scale-of .ensures) (c .scale-of2 .ensures)
 
--- src/product.rt:22:1
 returns : tie.Need-returns
 returns c = toZ-ofZ (three-fits (c .before .before .args .a) (c .before .before .args .b) (c .before .scale-of .ensures) (c .scale-of2 .ensures)) ∙ three (c .before .before .args .a) (c .before .before .args .b) (c .before .scale-of .ensures) (c .scale-of2 .ensures)
 

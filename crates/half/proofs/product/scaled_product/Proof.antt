@@ -3,44 +3,31 @@ use native.Mathlib.Omega.{arith}
 use borrow.Author.Needs.{needs}
 use Rattle.half.proofs.product.scaled_product.Statement.{statement}
 use Rattle.half.proofs.product.scaled_product.Tie as tie
-use Rattle.half.proofs.product.scaled_product.Reads as reads
-use Rattle.half.proofs.product.scaled_product.Lts as lts
-use Rattle.half.proofs.fields.significand_of.Reads as significand-of-reads
-use Rattle.half.proofs.product.product_scale.Reads as product-scale-reads
 
--- src/product.rt:31:13
 significand-of-requires : tie.Need-significand-of-requires
 significand-of-requires c κs = search needs
 
--- src/product.rt:31:41
 significand-of-requires-2 : tie.Need-significand-of-requires-2
 significand-of-requires-2 c κs = search needs
 
--- src/product.rt:31:13
 mul-p : tie.Need-mul-p
 mul-p c = omega (arith, product-lt (c .before .before .args .a) (c .before .before .args .b) (c .before .significand-of .ensures) (c .significand-of2 .ensures))
 
--- src/product.rt:32:9
 product-scale-requires : tie.Need-product-scale-requires
 product-scale-requires c κs = search needs
 
--- src/product.rt:37:17
 cast-t8 : tie.Need-cast-t8
 cast-t8 c = cast-up (c .before .before .before .before .args .a) (c .before .before .before .before .args .b) (c .before .before .before .significand-of .ensures) (c .before .before .significand-of2 .ensures) (c .before .product-scale .ensures) (c .if1 .taken)
 
--- src/product.rt:34:9
 returns : tie.Need-returns
 returns c = raised (c .before .before .before .before .args .a) (c .before .before .before .before .args .b) (c .before .before .before .significand-of .ensures) (c .before .before .significand-of2 .ensures) (c .before .product-scale .ensures) (c .if1 .taken)
 
--- src/product.rt:43:14
 sub-t9 : tie.Need-sub-t9
 sub-t9 c = down-fits (c .before .before .before .before .args .a) (c .before .before .before .before .args .b) (c .before .before .before .significand-of .ensures) (c .before .before .significand-of2 .ensures) (c .before .product-scale .ensures) (c .if1 .left)
 
--- src/product.rt:43:13
 cast-t10 : tie.Need-cast-t10
 cast-t10 c = cast-down (c .before .before .before .before .args .a) (c .before .before .before .before .args .b) (c .before .before .before .significand-of .ensures) (c .before .before .significand-of2 .ensures) (c .before .product-scale .ensures) (c .if1 .left)
 
--- src/product.rt:28:1
 returns-2 : tie.Need-returns-2
 returns-2 c = lowered (c .before .before .before .before .args .a) (c .before .before .before .before .args .b) (c .before .before .before .significand-of .ensures) (c .before .before .significand-of2 .ensures) (c .before .product-scale .ensures) (c .if1 .left)
 

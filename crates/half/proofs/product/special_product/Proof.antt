@@ -5,53 +5,34 @@ use Rattle.half.proofs.Special.{two-nan, two-infinite, multiply-nan, mu
 use borrow.Author.Needs.{needs}
 use Rattle.half.proofs.product.special_product.Statement.{statement}
 use Rattle.half.proofs.product.special_product.Tie as tie
-use Rattle.half.proofs.product.special_product.Reads as reads
-use Rattle.half.proofs.product.special_product.Lts as lts
-use Rattle.half.proofs.fields.with_sign.Reads as with-sign-reads
-use Rattle.half.proofs.operands.any_nan.Reads as any-nan-reads
-use Rattle.half.proofs.operands.denormal_flag.Reads as denormal-flag-reads
-use Rattle.half.proofs.operands.invalid_result.Reads as invalid-result-reads
-use Rattle.half.proofs.operands.nan_result.Reads as nan-result-reads
-use Rattle.half.proofs.operands.unlike_signs.Reads as unlike-signs-reads
-use Rattle.half.proofs.product.zero_times_infinity.Reads as zero-times-infinity-reads
 
--- src/product.rt:65:8
 any-nan-requires : tie.Need-any-nan-requires
 any-nan-requires c κs = search needs
 
--- src/product.rt:66:9
 nan-result-requires : tie.Need-nan-result-requires
 nan-result-requires c κs = search needs
 
--- src/product.rt:66:9
 returns : tie.Need-returns
 returns c = λ mode unmasked. multiply-nan _ _ mode unmasked (two-nan (c .before .before .before .args .a) (c .before .before .before .args .b) (c .before .before .any-nan .ensures) (c .before .if1 .taken)) (c .nan-result .ensures)
 
--- src/product.rt:68:8
 zero-times-infinity-requires : tie.Need-zero-times-infinity-requires
 zero-times-infinity-requires c κs = search needs
 
--- src/product.rt:69:9
 invalid-result-requires : tie.Need-invalid-result-requires
 invalid-result-requires c κs = search needs
 
--- src/product.rt:69:9
 returns-2 : tie.Need-returns-2
 returns-2 c = λ mode unmasked. multiply-invalid _ _ mode unmasked (two-nan (c .before .before .before .before .before .args .a) (c .before .before .before .before .before .args .b) (c .before .before .before .before .any-nan .ensures) (c .before .before .before .if1 .left)) (sym (c .before .before .zero-times-infinity .ensures) ∙ c .before .if2 .taken) (c .invalid-result .ensures)
 
--- src/product.rt:71:9
 denormal-flag-requires : tie.Need-denormal-flag-requires
 denormal-flag-requires c κs = search needs
 
--- src/product.rt:73:33
 unlike-signs-requires : tie.Need-unlike-signs-requires
 unlike-signs-requires c κs = search needs
 
--- src/product.rt:73:15
 with-sign-requires : tie.Need-with-sign-requires
 with-sign-requires c κs = search needs
 
--- src/product.rt:61:1
 returns-3 : tie.Need-returns-3
 returns-3 c = λ mode unmasked. multiply-infinite (c .before .before .before .before .before .before .before .args .a) (c .before .before .before .before .before .before .before .args .b) mode unmasked (two-nan (c .before .before .before .before .before .before .before .args .a) (c .before .before .before .before .before .before .before .args .b) (c .before .before .before .before .before .before .any-nan .ensures) (c .before .before .before .before .before .if1 .left)) (sym (c .before .before .before .before .zero-times-infinity .ensures) ∙ c .before .before .before .if2 .left) (two-infinite (c .before .before .before .before .before .before .before .args .a) (c .before .before .before .before .before .before .before .args .b) (c .before .before .before .before .before .before .before .pre) (sym (c .before .before .before .before .before .before .any-nan .ensures) ∙ c .before .before .before .before .before .if1 .left)) (c .before .before .denormal-flag .ensures) (c .with-sign .ensures ∙ ap (λ (u : Bool). infinity u) (c .before .unlike-signs .ensures))
 

@@ -1,33 +1,22 @@
 use mathlib.Core.Path.{sym, _∙_}
-use native.Mathlib.Omega.{arith}
 use Rattle.half.proofs.Quotients.{in-range}
 use Rattle.half.proofs.Sticky.{far-too-large, placed-fraction}
 use borrow.Author.Needs.{needs}
 use Rattle.half.proofs.quotient.finite_quotient.Statement.{statement}
 use Rattle.half.proofs.quotient.finite_quotient.Tie as tie
-use Rattle.half.proofs.quotient.finite_quotient.Reads as reads
-use Rattle.half.proofs.quotient.finite_quotient.Lts as lts
-use Rattle.half.proofs.quotient.quotient_place.Reads as quotient-place-reads
-use Rattle.half.proofs.rounding.overflow.Reads as overflow-reads
-use Rattle.half.proofs.rounding.round.Reads as round-reads
 
--- src/quotient.rt:33:9
 overflow-requires : tie.Need-overflow-requires
 overflow-requires c κs = search needs
 
--- src/quotient.rt:33:9
 returns : tie.Need-returns
 returns c = c .overflow .ensures ∙ sym (far-too-large _ _ _ (c .before .before .args .x) (c .before .before .args .y) (c .before .before .pre .2) (c .before .if1 .taken))
 
--- src/quotient.rt:35:42
 quotient-place-requires : tie.Need-quotient-place-requires
 quotient-place-requires c κs = (c .before .pre .0, c .before .pre .1, c .before .pre .2, in-range (c .before .args .x) (c .before .args .y) (c .if1 .left))
 
--- src/quotient.rt:35:5
 round-requires : tie.Need-round-requires
 round-requires c κs = search needs
 
--- src/quotient.rt:28:1
 returns-2 : tie.Need-returns-2
 returns-2 c = placed-fraction _ _ _ (c .before .before .before .args .x) (c .before .before .before .args .y) (c .before .before .before .pre .2) (c .before .quotient-place .ensures) (c .round .ensures)
 

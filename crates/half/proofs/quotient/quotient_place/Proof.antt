@@ -5,58 +5,43 @@ use Rattle.half.proofs.Quotients.{bound, place-even, place-odd}
 use borrow.Author.Needs.{needs}
 use Rattle.half.proofs.quotient.quotient_place.Statement.{statement}
 use Rattle.half.proofs.quotient.quotient_place.Tie as tie
-use Rattle.half.proofs.quotient.quotient_place.Reads as reads
-use Rattle.half.proofs.quotient.quotient_place.Lts as lts
 
--- src/quotient.rt:21:13
 mul-n : tie.Need-mul-n
 mul-n c = search needs
 
--- src/quotient.rt:22:16
 rem-rest : tie.Need-rem-rest
 rem-rest c = search needs
 
--- src/quotient.rt:22:16
 mul-rest : tie.Need-mul-rest
 mul-rest c = let r = mod-lt (c .args .x * 2 ^ 24) (c .pre .2) in omega arith
 
--- src/quotient.rt:23:13
 div-w : tie.Need-div-w
 div-w c = search needs
 
--- src/quotient.rt:23:13
 mul-w : tie.Need-mul-w
 mul-w c = omega (arith, bound (c .args .x) (c .args .y) (c .pre .2) (c .pre .3))
 
--- src/quotient.rt:23:25
 div-w-2 : tie.Need-div-w-2
 div-w-2 c = search needs
 
--- src/quotient.rt:23:13
 add-w : tie.Need-add-w
 add-w c = omega (arith, bound (c .args .x) (c .args .y) (c .pre .2) (c .pre .3))
 
--- src/quotient.rt:24:8
 rem-if1 : tie.Need-rem-if1
 rem-if1 c = search needs
 
--- src/quotient.rt:24:24
 mul-result : tie.Need-mul-result
 mul-result c = omega (arith, bound (c .before .args .x) (c .before .args .y) (c .before .pre .2) (c .before .pre .3))
 
--- src/quotient.rt:24:39
 mul-result-2 : tie.Need-mul-result-2
 mul-result-2 c = omega (arith, bound (c .before .args .x) (c .before .args .y) (c .before .pre .2) (c .before .pre .3))
 
--- src/quotient.rt:24:39
 add-result : tie.Need-add-result
 add-result c = omega (arith, bound (c .before .args .x) (c .before .args .y) (c .before .pre .2) (c .before .pre .3))
 
--- src/quotient.rt:17:1
 returns : tie.Need-returns
 returns c = place-even (c .before .args .x) (c .before .args .y) (c .before .pre .2) (c .if1 .taken)
 
--- src/quotient.rt:17:1
 returns-2 : tie.Need-returns-2
 returns-2 c = place-odd (c .before .args .x) (c .before .args .y) (c .before .pre .2) (c .if1 .left)
 

@@ -5,95 +5,64 @@ use Rattle.half.proofs.Special.{two-nan, divide-nan, divide-invalid, di
 use borrow.Author.Needs.{needs}
 use Rattle.half.proofs.quotient.special_quotient.Statement.{statement}
 use Rattle.half.proofs.quotient.special_quotient.Tie as tie
-use Rattle.half.proofs.quotient.special_quotient.Reads as reads
-use Rattle.half.proofs.quotient.special_quotient.Lts as lts
-use Rattle.half.proofs.fields.finite.Reads as finite-reads
-use Rattle.half.proofs.fields.infinite.Reads as infinite-reads
-use Rattle.half.proofs.fields.with_sign.Reads as with-sign-reads
-use Rattle.half.proofs.fields.zero.Reads as zero-reads
-use Rattle.half.proofs.operands.any_nan.Reads as any-nan-reads
-use Rattle.half.proofs.operands.denormal_flag.Reads as denormal-flag-reads
-use Rattle.half.proofs.operands.invalid_result.Reads as invalid-result-reads
-use Rattle.half.proofs.operands.nan_result.Reads as nan-result-reads
-use Rattle.half.proofs.operands.unlike_signs.Reads as unlike-signs-reads
 
--- src/quotient.rt:43:8
 any-nan-requires : tie.Need-any-nan-requires
 any-nan-requires c κs = search needs
 
--- src/quotient.rt:44:9
 nan-result-requires : tie.Need-nan-result-requires
 nan-result-requires c κs = search needs
 
--- src/quotient.rt:44:9
 returns : tie.Need-returns
 returns c = λ mode unmasked. divide-nan _ _ mode unmasked (two-nan (c .before .before .before .args .a) (c .before .before .before .args .b) (c .before .before .any-nan .ensures) (c .before .if1 .taken)) (c .nan-result .ensures)
 
--- src/quotient.rt:46:9
 zero-requires : tie.Need-zero-requires
 zero-requires c κs = search needs
 
--- src/quotient.rt:46:27
 zero-requires-2 : tie.Need-zero-requires-2
 zero-requires-2 c κs = search needs
 
--- src/quotient.rt:46:47
 infinite-requires : tie.Need-infinite-requires
 infinite-requires c κs = search needs
 
--- src/quotient.rt:46:69
 infinite-requires-2 : tie.Need-infinite-requires-2
 infinite-requires-2 c κs = search needs
 
--- src/quotient.rt:47:9
 invalid-result-requires : tie.Need-invalid-result-requires
 invalid-result-requires c κs = search needs
 
--- src/quotient.rt:47:9
 returns-2 : tie.Need-returns-2
 returns-2 c = λ mode unmasked. divide-invalid _ _ mode unmasked (two-nan (c .before .before .before .before .before .before .before .before .args .a) (c .before .before .before .before .before .before .before .before .args .b) (c .before .before .before .before .before .before .before .any-nan .ensures) (c .before .before .before .before .before .before .if1 .left)) (rw (← (c .before .before .before .before .before .zero .ensures), ← (c .before .before .before .before .zero2 .ensures), ← (c .before .before .before .infinite .ensures), ← (c .before .before .infinite2 .ensures)) (c .before .if2 .taken)) (c .invalid-result .ensures)
 
--- src/quotient.rt:49:9
 unlike-signs-requires : tie.Need-unlike-signs-requires
 unlike-signs-requires c κs = search needs
 
--- src/quotient.rt:50:9
 with-sign-requires : tie.Need-with-sign-requires
 with-sign-requires c κs = search needs
 
--- src/quotient.rt:51:8
 finite-requires : tie.Need-finite-requires
 finite-requires c κs = search needs
 
--- src/quotient.rt:51:29
 zero-requires-3 : tie.Need-zero-requires-3
 zero-requires-3 c κs = search needs
 
--- src/quotient.rt:51:47
 zero-requires-4 : tie.Need-zero-requires-4
 zero-requires-4 c κs = search needs
 
--- src/quotient.rt:52:9
 returns-3 : tie.Need-returns-3
 returns-3 c = λ mode unmasked. divide-by-zero (c .before .before .before .before .before .before .before .before .before .before .before .before .before .args .a) (c .before .before .before .before .before .before .before .before .before .before .before .before .before .args .b) mode unmasked (two-nan (c .before .before .before .before .before .before .before .before .before .before .before .before .before .args .a) (c .before .before .before .before .before .before .before .before .before .before .before .before .before .args .b) (c .before .before .before .before .before .before .before .before .before .before .before .before .any-nan .ensures) (c .before .before .before .before .before .before .before .before .before .before .before .if1 .left)) (rw (← (c .before .before .before .before .before .before .before .before .before .before .zero .ensures), ← (c .before .before .before .before .before .before .before .before .before .zero2 .ensures), ← (c .before .before .before .before .before .before .before .before .infinite .ensures), ← (c .before .before .before .before .before .before .before .infinite2 .ensures)) (c .before .before .before .before .before .before .if2 .left)) (rw (← (c .before .before .before .finite .ensures), ← (c .before .before .zero3 .ensures), ← (c .before .zero4 .ensures)) (c .if3 .taken)) (c .before .before .before .before .with-sign .ensures ∙ ap (λ (u : Bool). infinity u) (c .before .before .before .before .before .unlike-signs .ensures))
 
--- src/quotient.rt:57:9
 denormal-flag-requires : tie.Need-denormal-flag-requires
 denormal-flag-requires c κs = search needs
 
--- src/quotient.rt:58:8
 infinite-requires-3 : tie.Need-infinite-requires-3
 infinite-requires-3 c κs = search needs
 
--- src/quotient.rt:59:9
 returns-4 : tie.Need-returns-4
 returns-4 c = λ mode unmasked. divide-infinite (c .before .before .before .before .before .before .before .before .before .before .before .before .before .before .before .before .args .a) (c .before .before .before .before .before .before .before .before .before .before .before .before .before .before .before .before .args .b) mode unmasked (two-nan (c .before .before .before .before .before .before .before .before .before .before .before .before .before .before .before .before .args .a) (c .before .before .before .before .before .before .before .before .before .before .before .before .before .before .before .before .args .b) (c .before .before .before .before .before .before .before .before .before .before .before .before .before .before .before .any-nan .ensures) (c .before .before .before .before .before .before .before .before .before .before .before .before .before .before .if1 .left)) (rw (← (c .before .before .before .before .before .before .before .before .before .before .before .before .before .zero .ensures), ← (c .before .before .before .before .before .before .before .before .before .before .before .before .zero2 .ensures), ← (c .before .before .before .before .before .before .before .before .before .before .before .infinite .ensures), ← (c .before .before .before .before .before .before .before .before .before .before .infinite2 .ensures)) (c .before .before .before .before .before .before .before .before .before .if2 .left)) (rw (← (c .before .before .before .before .before .before .finite .ensures), ← (c .before .before .before .before .before .zero3 .ensures), ← (c .before .before .before .before .zero4 .ensures)) (c .before .before .before .if3 .left)) (c .before .before .denormal-flag .ensures) (sym (c .before .infinite3 .ensures) ∙ c .if4 .taken) (c .before .before .before .before .before .before .before .with-sign .ensures ∙ ap (λ (u : Bool). infinity u) (c .before .before .before .before .before .before .before .before .unlike-signs .ensures))
 
--- src/quotient.rt:65:15
 with-sign-requires-2 : tie.Need-with-sign-requires-2
 with-sign-requires-2 c κs = search needs
 
--- src/quotient.rt:39:1
 returns-5 : tie.Need-returns-5
 returns-5 c = λ mode unmasked.
     let n = two-nan (c .before .before .before .before .before .before .before .before .before .before .before .before .before .before .before .before .before .args .a) (c .before .before .before .before .before .before .before .before .before .before .before .before .before .before .before .before .before .args .b) (c .before .before .before .before .before .before .before .before .before .before .before .before .before .before .before .before .any-nan .ensures) (c .before .before .before .before .before .before .before .before .before .before .before .before .before .before .before .if1 .left) in

@@ -4,54 +4,37 @@ use Rattle.half.proofs.Sticky.{exponent-le, radicand-lt, root-rounded}
 use borrow.Author.Needs.{needs}
 use Rattle.half.proofs.root.finite_root.Statement.{statement}
 use Rattle.half.proofs.root.finite_root.Tie as tie
-use Rattle.half.proofs.root.finite_root.Reads as reads
-use Rattle.half.proofs.root.finite_root.Lts as lts
-use Rattle.half.proofs.fields.magnitude.Reads as magnitude-reads
-use Rattle.half.proofs.root.half_exponent.Reads as half-exponent-reads
-use Rattle.half.proofs.root.root_place.Reads as root-place-reads
-use Rattle.half.proofs.rounding.round.Reads as round-reads
 
--- src/root.rt:57:9
 magnitude-requires : tie.Need-magnitude-requires
 magnitude-requires c κs = search needs
 
--- src/root.rt:58:9
 half-exponent-requires : tie.Need-half-exponent-requires
 half-exponent-requires c κs = rw (c .magnitude .ensures) (units-pos (c .before .args .a) (c .before .pre .1))
 
--- src/root.rt:59:38
 mul-root-place : tie.Need-mul-root-place
 mul-root-place c = omega (arith, exponent-le (c .before .before .args .a) (c .before .magnitude .result) (c .half-exponent .result) (c .before .magnitude .ensures) (c .before .before .pre .0) (c .before .before .pre .1) (c .half-exponent .ensures))
 
--- src/root.rt:59:38
 cast-root-place : tie.Need-cast-root-place
 cast-root-place c = search needs
 
--- src/root.rt:59:24
 shr-root-place : tie.Need-shr-root-place
 shr-root-place c = omega (arith, exponent-le (c .before .before .args .a) (c .before .magnitude .result) (c .half-exponent .result) (c .before .magnitude .ensures) (c .before .before .pre .0) (c .before .before .pre .1) (c .half-exponent .ensures))
 
--- src/root.rt:59:9
 root-place-requires : tie.Need-root-place-requires
 root-place-requires c κs = radicand-lt (c .before .before .args .a) (c .before .magnitude .result) (c .half-exponent .result) (c .before .magnitude .ensures) (c .before .before .pre .0) (c .before .before .pre .1) (c .half-exponent .ensures)
 
--- src/root.rt:60:50
 add-round : tie.Need-add-round
 add-round c = omega (arith, exponent-le (c .before .before .before .args .a) (c .before .before .magnitude .result) (c .before .half-exponent .result) (c .before .before .magnitude .ensures) (c .before .before .before .pre .0) (c .before .before .before .pre .1) (c .before .half-exponent .ensures))
 
--- src/root.rt:60:50
 cast-round : tie.Need-cast-round
 cast-round c = search needs
 
--- src/root.rt:60:44
 shl-round : tie.Need-shl-round
 shl-round c = omega (arith, exponent-le (c .before .before .before .args .a) (c .before .before .magnitude .result) (c .before .half-exponent .result) (c .before .before .magnitude .ensures) (c .before .before .before .pre .0) (c .before .before .before .pre .1) (c .before .half-exponent .ensures))
 
--- src/root.rt:60:5
 round-requires : tie.Need-round-requires
 round-requires c κs = search needs
 
--- src/root.rt:53:1
 returns : tie.Need-returns
 returns c = root-rounded (c .before .before .before .before .args .a) (c .before .before .before .magnitude .result) (c .before .before .half-exponent .result) (c .before .before .before .magnitude .ensures) (c .before .before .before .before .pre .0) (c .before .before .before .before .pre .1) (c .before .before .half-exponent .ensures) (c .before .before .before .before .args .mode) (c .before .before .before .before .args .unmasked) _ (c .before .root-place .ensures) (c .round .ensures)
 

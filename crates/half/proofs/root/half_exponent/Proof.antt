@@ -2,14 +2,10 @@ use native.Mathlib.Omega.{arith}
 use Rattle.half.proofs.Places.{zeros-size, size-large}
 use Rattle.half.proofs.root.half_exponent.Statement.{statement}
 use Rattle.half.proofs.root.half_exponent.Tie as tie
-use Rattle.half.proofs.root.half_exponent.Reads as reads
-use Rattle.half.proofs.root.half_exponent.Lts as lts
 
--- src/root.rt:48:6
 sub-result : tie.Need-sub-result
 sub-result c = let e = zeros-size (c .args .x) (c .fits .x .fits) in let l = size-large (c .args .x) 0 (c .pre) in omega arith
 
--- src/root.rt:44:1
 returns : tie.Need-returns
 returns c = let e = zeros-size (c .args .x) (c .fits .x .fits) in let l = size-large (c .args .x) 0 (c .pre) in omega arith
 

@@ -1,6 +1,6 @@
 -- The loop goes down to the root: n stays below the square of s + 1.
-use Prim.Native.Nat.{ℕ, zero, suc, _≤_, _<_, _+_, _-_, _*_, _^_}
-use mathlib.Core.Path.{_≡_, refl}
+use Prim.Native.Nat.{ℕ, zero, suc, _<_, _+_, _-_, _*_, _^_}
+use mathlib.Core.Path.{_≡_}
 use native.Mathlib.Omega.{arith}
 use native.Mathlib.Nat.{div-le-self, mul-le-mul, lt-of-le-of-lt}
 use lib.Dec.{lit<}

@@ -3,35 +3,25 @@ use Rattle.half.proofs.Roots.{root-lt, root-square, root-even, root-odd
 use borrow.Author.Needs.{needs}
 use Rattle.half.proofs.root.root_place.Statement.{statement}
 use Rattle.half.proofs.root.root_place.Tie as tie
-use Rattle.half.proofs.root.root_place.Reads as reads
-use Rattle.half.proofs.root.root_place.Lts as lts
-use Rattle.half.proofs.root.integer_root.Reads as integer-root-reads
 
--- src/root.rt:39:9
 integer-root-requires : tie.Need-integer-root-requires
 integer-root-requires c κs = search needs
 
--- src/root.rt:40:8
 mul-if1 : tie.Need-mul-if1
 mul-if1 c = omega (arith, root-square 13 (c .before .args .n) _ (c .integer-root .ensures) (c .before .pre))
 
--- src/root.rt:40:21
 mul-result : tie.Need-mul-result
 mul-result c = omega (arith, root-lt 13 (c .before .before .args .n) _ (c .before .integer-root .ensures) (c .before .before .pre))
 
--- src/root.rt:40:36
 mul-result-2 : tie.Need-mul-result-2
 mul-result-2 c = omega (arith, root-lt 13 (c .before .before .args .n) _ (c .before .integer-root .ensures) (c .before .before .pre))
 
--- src/root.rt:40:36
 add-result : tie.Need-add-result
 add-result c = omega (arith, root-lt 13 (c .before .before .args .n) _ (c .before .integer-root .ensures) (c .before .before .pre))
 
--- src/root.rt:35:1
 returns : tie.Need-returns
 returns c = root-even 13 (c .before .before .args .n) _ (c .before .integer-root .ensures) (c .if1 .taken)
 
--- src/root.rt:35:1
 returns-2 : tie.Need-returns-2
 returns-2 c = root-odd 13 (c .before .before .args .n) _ (c .before .integer-root .ensures) (c .before .before .pre) (c .if1 .left)
 

@@ -1,24 +1,16 @@
 use borrow.Author.Needs.{needs}
 use Rattle.half.proofs.rounding.overflow_fields.Statement.{statement}
 use Rattle.half.proofs.rounding.overflow_fields.Tie as tie
-use Rattle.half.proofs.rounding.overflow_fields.Reads as reads
-use Rattle.half.proofs.rounding.overflow_fields.Lts as lts
-use Rattle.half.proofs.rounding.is_nearest.Reads as is-nearest-reads
-use Rattle.half.proofs.rounding.leads_outward.Reads as leads-outward-reads
 
--- src/rounding.rt:57:8
 is-nearest-requires : tie.Need-is-nearest-requires
 is-nearest-requires c κs = search needs
 
--- src/rounding.rt:57:27
 leads-outward-requires : tie.Need-leads-outward-requires
 leads-outward-requires c κs = search needs
 
--- src/rounding.rt:58:9
 returns : tie.Need-returns
 returns c = rw (← (c .before .before .is-nearest .ensures), ← (c .before .leads-outward .ensures), c .if1 .taken)
 
--- src/rounding.rt:54:1
 returns-2 : tie.Need-returns-2
 returns-2 c = rw (← (c .before .before .is-nearest .ensures), ← (c .before .leads-outward .ensures), c .if1 .left)
 

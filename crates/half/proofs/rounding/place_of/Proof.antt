@@ -2,34 +2,25 @@ use Rattle.half.proofs.Places.{twice-lt, twice-more-lt, place-whole, pl
 use borrow.Author.Needs.{needs}
 use Rattle.half.proofs.rounding.place_of.Statement.{statement}
 use Rattle.half.proofs.rounding.place_of.Tie as tie
-use Rattle.half.proofs.rounding.place_of.Reads as reads
-use Rattle.half.proofs.rounding.place_of.Lts as lts
 
--- src/rounding.rt:70:13
 shr-q : tie.Need-shr-q
 shr-q c = search needs
 
--- src/rounding.rt:71:8
 shl-if1 : tie.Need-shl-if1
 shl-if1 c = search needs
 
--- src/rounding.rt:71:22
 mul-result : tie.Need-mul-result
 mul-result c = record { fits = twice-lt (c .before .args .t) (c .before .args .k) (c .before .fits .t .fits) (c .before .pre .0) }
 
--- src/rounding.rt:71:37
 mul-result-2 : tie.Need-mul-result-2
 mul-result-2 c = record { fits = twice-lt (c .before .args .t) (c .before .args .k) (c .before .fits .t .fits) (c .before .pre .0) }
 
--- src/rounding.rt:71:37
 add-result : tie.Need-add-result
 add-result c = record { fits = twice-more-lt (c .before .args .t) (c .before .args .k) (c .before .fits .t .fits) (c .before .pre .0) }
 
--- src/rounding.rt:66:1
 returns : tie.Need-returns
 returns c = place-whole (c .before .args .t) (c .before .args .k) (c .before .fits .t .fits) (c .if1 .taken)
 
--- src/rounding.rt:66:1
 returns-2 : tie.Need-returns-2
 returns-2 c = place-rest (c .before .args .t) (c .before .args .k) (c .before .fits .t .fits) (c .if1 .left)
 

@@ -6,73 +6,49 @@ use Rattle.half.proofs.Steps.{over, fit}
 use borrow.Author.Needs.{needs}
 use Rattle.half.proofs.rounding.round.Statement.{statement}
 use Rattle.half.proofs.rounding.round.Tie as tie
-use Rattle.half.proofs.rounding.round.Reads as reads
-use Rattle.half.proofs.rounding.round.Lts as lts
-use Rattle.half.proofs.fields.with_sign.Reads as with-sign-reads
-use Rattle.half.proofs.operands.flag_if.Reads as flag-if-reads
-use Rattle.half.proofs.rounding.dropped.Reads as dropped-reads
-use Rattle.half.proofs.rounding.is_tiny.Reads as is-tiny-reads
-use Rattle.half.proofs.rounding.overflow.Reads as overflow-reads
-use Rattle.half.proofs.rounding.place_of.Reads as place-of-reads
-use Rattle.half.proofs.rounding.whole_steps.Reads as whole-steps-reads
 
--- src/rounding.rt:99:9
 dropped-requires : tie.Need-dropped-requires
 dropped-requires c κs = search needs
 
--- src/rounding.rt:100:25
 add-place-of : tie.Need-add-place-of
 add-place-of c = let s = size-le (c .before .args .t) 64 (c .before .fits .t .fits) in omega arith
 
--- src/rounding.rt:100:9
 place-of-requires : tie.Need-place-of-requires
 place-of-requires c κs = let s = size-le (c .before .args .t) 64 (c .before .fits .t .fits) in omega arith
 
--- src/rounding.rt:101:9
 whole-steps-requires : tie.Need-whole-steps-requires
 whole-steps-requires c κs = place-half (c .before .before .args .t) _ (c .before .before .fits .t .fits) (omega arith) (c .place-of .ensures)
 
--- src/rounding.rt:102:14
 cast-m : tie.Need-cast-m
 cast-m c = search needs
 
--- src/rounding.rt:102:13
 mul-m : tie.Need-mul-m
 mul-m c = search needs
 
--- src/rounding.rt:102:13
 add-m : tie.Need-add-m
 add-m c = let s = size-le (c .before .before .before .args .t) 64 (c .before .before .before .fits .t .fits) in omega (arith, steps-le (c .before .before .before .args .mode) (c .before .before .before .args .neg) (c .before .place-of .result))
 
--- src/rounding.rt:104:9
 overflow-requires : tie.Need-overflow-requires
 overflow-requires c κs = search needs
 
--- src/rounding.rt:104:9
 returns : tie.Need-returns
 returns c = over _ _ _ (c .before .before .before .before .before .args .t) _ _ _ (c .before .before .before .before .dropped .ensures) (c .before .before .before .place-of .ensures) (c .before .before .whole-steps .ensures) (c .before .if1 .taken) (c .overflow .ensures)
 
--- src/rounding.rt:107:14
 is-tiny-requires : tie.Need-is-tiny-requires
 is-tiny-requires c κs = search needs
 
--- src/rounding.rt:108:36
 cast-with-sign : tie.Need-cast-with-sign
 cast-with-sign c = search needs
 
--- src/rounding.rt:108:9
 with-sign-requires : tie.Need-with-sign-requires
 with-sign-requires c κs = search needs
 
--- src/rounding.rt:111:16
 flag-if-requires : tie.Need-flag-if-requires
 flag-if-requires c κs = search needs
 
--- src/rounding.rt:111:49
 flag-if-requires-2 : tie.Need-flag-if-requires-2
 flag-if-requires-2 c κs = search needs
 
--- src/rounding.rt:96:1
 returns-2 : tie.Need-returns-2
 returns-2 c = fit _ _ _ (c .before .before .before .before .before .before .before .before .args .t) _ _ _ (c .before .before .before .before .before .before .before .dropped .ensures) (c .before .before .before .before .before .before .place-of .ensures) (c .before .before .before .before .before .whole-steps .ensures) (c .before .before .before .before .if1 .left) (c .before .before .before .is-tiny .ensures) (c .before .before .with-sign .ensures) (c .before .flag-if .ensures) (c .flag-if2 .ensures)
 

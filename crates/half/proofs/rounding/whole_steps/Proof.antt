@@ -4,29 +4,19 @@ use Rattle.half.proofs.Steps.{carried, carry-le}
 use borrow.Author.Needs.{needs}
 use Rattle.half.proofs.rounding.whole_steps.Statement.{statement}
 use Rattle.half.proofs.rounding.whole_steps.Tie as tie
-use Rattle.half.proofs.rounding.whole_steps.Reads as reads
-use Rattle.half.proofs.rounding.whole_steps.Lts as lts
-use Rattle.half.proofs.rounding.carry.Reads as carry-reads
-use Rattle.half.proofs.rounding.is_nearest.Reads as is-nearest-reads
-use Rattle.half.proofs.rounding.leads_outward.Reads as leads-outward-reads
 
--- src/rounding.rt:79:9
 leads-outward-requires : tie.Need-leads-outward-requires
 leads-outward-requires c κs = search needs
 
--- src/rounding.rt:80:16
 is-nearest-requires : tie.Need-is-nearest-requires
 is-nearest-requires c κs = search needs
 
--- src/rounding.rt:80:10
 carry-requires : tie.Need-carry-requires
 carry-requires c κs = search needs
 
--- src/rounding.rt:80:6
 add-result : tie.Need-add-result
 add-result c = omega (arith, c .carry .ensures, carry-le (c .before .is-nearest .result) (c .before .before .leads-outward .result) (c .before .before .before .args .z / 4 % 2) (omega arith))
 
--- src/rounding.rt:75:1
 returns : tie.Need-returns
 returns c = carried _ _ (c .before .before .before .args .z) (c .before .is-nearest .ensures) (c .before .before .leads-outward .ensures) (c .carry .ensures)
 

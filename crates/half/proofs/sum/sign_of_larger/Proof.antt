@@ -1,14 +1,10 @@
 use borrow.Author.Tests.{lt-ltb, le-ltb}
 use Rattle.half.proofs.sum.sign_of_larger.Statement.{statement}
 use Rattle.half.proofs.sum.sign_of_larger.Tie as tie
-use Rattle.half.proofs.sum.sign_of_larger.Reads as reads
-use Rattle.half.proofs.sum.sign_of_larger.Lts as lts
 
--- src/sum.rt:41:1
 returns : tie.Need-returns
 returns c = rw (lt-ltb _ _ (c .if1 .taken))
 
--- src/sum.rt:41:1
 returns-2 : tie.Need-returns-2
 returns-2 c = rw (le-ltb _ _ (c .if1 .left))
 

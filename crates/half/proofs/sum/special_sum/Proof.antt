@@ -3,60 +3,40 @@ use mathlib.Core.Path.{sym, _∙_}
 use borrow.Author.Needs.{needs}
 use Rattle.half.proofs.sum.special_sum.Statement.{statement}
 use Rattle.half.proofs.sum.special_sum.Tie as tie
-use Rattle.half.proofs.sum.special_sum.Reads as reads
-use Rattle.half.proofs.sum.special_sum.Lts as lts
-use Rattle.half.proofs.fields.infinite.Reads as infinite-reads
-use Rattle.half.proofs.operands.any_nan.Reads as any-nan-reads
-use Rattle.half.proofs.operands.denormal_flag.Reads as denormal-flag-reads
-use Rattle.half.proofs.operands.invalid_result.Reads as invalid-result-reads
-use Rattle.half.proofs.operands.nan_result.Reads as nan-result-reads
-use Rattle.half.proofs.operands.unlike_signs.Reads as unlike-signs-reads
 
--- src/sum.rt:50:8
 any-nan-requires : tie.Need-any-nan-requires
 any-nan-requires c κs = search needs
 
--- src/sum.rt:51:9
 nan-result-requires : tie.Need-nan-result-requires
 nan-result-requires c κs = search needs
 
--- src/sum.rt:51:9
 returns : tie.Need-returns
 returns c = λ mode unmasked. add-nan _ _ mode unmasked (two-nan (c .before .before .before .args .a) (c .before .before .before .args .b) (c .before .before .any-nan .ensures) (c .before .if1 .taken)) (c .nan-result .ensures)
 
--- src/sum.rt:53:9
 denormal-flag-requires : tie.Need-denormal-flag-requires
 denormal-flag-requires c κs = search needs
 
--- src/sum.rt:54:8
 infinite-requires : tie.Need-infinite-requires
 infinite-requires c κs = search needs
 
--- src/sum.rt:54:30
 infinite-requires-2 : tie.Need-infinite-requires-2
 infinite-requires-2 c κs = search needs
 
--- src/sum.rt:54:52
 unlike-signs-requires : tie.Need-unlike-signs-requires
 unlike-signs-requires c κs = search needs
 
--- src/sum.rt:55:9
 invalid-result-requires : tie.Need-invalid-result-requires
 invalid-result-requires c κs = search needs
 
--- src/sum.rt:55:9
 returns-2 : tie.Need-returns-2
 returns-2 c = λ mode unmasked. add-invalid _ _ mode unmasked (two-nan (c .before .before .before .before .before .before .before .before .args .a) (c .before .before .before .before .before .before .before .before .args .b) (c .before .before .before .before .before .before .before .any-nan .ensures) (c .before .before .before .before .before .before .if1 .left)) (rw (← (c .before .before .before .before .infinite .ensures), ← (c .before .before .before .infinite2 .ensures), ← (c .before .before .unlike-signs .ensures)) (c .before .if2 .taken)) (c .invalid-result .ensures)
 
--- src/sum.rt:57:8
 infinite-requires-3 : tie.Need-infinite-requires-3
 infinite-requires-3 c κs = search needs
 
--- src/sum.rt:58:9
 returns-3 : tie.Need-returns-3
 returns-3 c = λ mode unmasked. add-left (c .before .before .before .before .before .before .before .before .before .args .a) (c .before .before .before .before .before .before .before .before .before .args .b) mode unmasked (two-nan (c .before .before .before .before .before .before .before .before .before .args .a) (c .before .before .before .before .before .before .before .before .before .args .b) (c .before .before .before .before .before .before .before .before .any-nan .ensures) (c .before .before .before .before .before .before .before .if1 .left)) (rw (← (c .before .before .before .before .before .infinite .ensures), ← (c .before .before .before .before .infinite2 .ensures), ← (c .before .before .before .unlike-signs .ensures)) (c .before .before .if2 .left)) (c .before .before .before .before .before .before .denormal-flag .ensures) (sym (c .before .infinite3 .ensures) ∙ c .if3 .taken)
 
--- src/sum.rt:46:1
 returns-4 : tie.Need-returns-4
 returns-4 c = λ mode unmasked. add-right (c .before .before .before .before .before .before .before .before .before .args .a) (c .before .before .before .before .before .before .before .before .before .args .b) mode unmasked (two-nan (c .before .before .before .before .before .before .before .before .before .args .a) (c .before .before .before .before .before .before .before .before .before .args .b) (c .before .before .before .before .before .before .before .before .any-nan .ensures) (c .before .before .before .before .before .before .before .if1 .left)) (rw (← (c .before .before .before .before .before .infinite .ensures), ← (c .before .before .before .before .infinite2 .ensures), ← (c .before .before .before .unlike-signs .ensures)) (c .before .before .if2 .left)) (c .before .before .before .before .before .before .denormal-flag .ensures) (sym (c .before .infinite3 .ensures) ∙ c .if3 .left) (rw (sym (c .before .infinite3 .ensures) ∙ c .if3 .left) at (two-infinite (c .before .before .before .before .before .before .before .before .before .args .a) (c .before .before .before .before .before .before .before .before .before .args .b) (c .before .before .before .before .before .before .before .before .before .pre) (sym (c .before .before .before .before .before .before .before .before .any-nan .ensures) ∙ c .before .before .before .before .before .before .before .if1 .left)))
 

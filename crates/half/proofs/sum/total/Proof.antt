@@ -2,26 +2,19 @@ use borrow.Author.Tests.{lt-ltb, le-ltb}
 use borrow.Author.Needs.{needs}
 use Rattle.half.proofs.sum.total.Statement.{statement}
 use Rattle.half.proofs.sum.total.Tie as tie
-use Rattle.half.proofs.sum.total.Reads as reads
-use Rattle.half.proofs.sum.total.Lts as lts
 
--- src/sum.rt:32:16
 add-result : tie.Need-add-result
 add-result c = search needs
 
--- src/sum.rt:32:9
 returns : tie.Need-returns
 returns c = rw (c .if1 .taken)
 
--- src/sum.rt:35:16
 sub-result : tie.Need-sub-result
 sub-result c = search needs
 
--- src/sum.rt:35:9
 returns-2 : tie.Need-returns-2
 returns-2 c = rw (c .before .if1 .left, lt-ltb _ _ (c .if2 .taken))
 
--- src/sum.rt:27:1
 returns-3 : tie.Need-returns-3
 returns-3 c = rw (c .before .if1 .left, le-ltb _ _ (c .if2 .left))
 
