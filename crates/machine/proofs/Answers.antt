@@ -24,8 +24,8 @@ use Rattle.machine.specs.State.{State, Stepped}
 use Rattle.machine.specs.Memory.{needsOutside}
 use Rattle.machine.specs.Lanes.{gathered, raisesUnmasked, recorded, controlAfter}
 use Rattle.machine.specs.Step.{ofFields, beforeSeven, conditions, answerOf, refused, stopped, completed, step}
-use Rattle.machine.specs.Answers.{Order, Leaves, Answers}
-use Rattle.machine.proofs.First.{NonZero, none-holds, holds-none, is-first, first-is}
+use Rattle.machine.specs.Answers.{InOrder, Leaves, Answers}
+use Rattle.machine.proofs.First.{NonZero, in-order}
 use Rattle.machine.proofs.Ends.{Way, early, fields, way, step-early, step-decoded}
 use Rattle.machine.proofs.Flags.{raised-below}
 
@@ -68,14 +68,9 @@ module _ (memory : List ℕ) (s : State) (code : List ℕ) where
           picked false true p q = sym (eqb-true n 8 q)
           picked false false p q = refl
 
-  order : Order memory s code (step memory s code .answer .number)
+  order : InOrder (conditions memory s code) (step memory s code .answer .number)
   unfolding answerOf
-  order =
-      rw number-is
-      (record {
-        done = (holds-none (conditions memory s code) non-zero, none-holds (conditions memory s code) 0);
-        given = λ k h. (first-is (conditions memory s code) k h, is-first (conditions memory s code) 0 k);
-      })
+  order = rw number-is (in-order (conditions memory s code) non-zero)
 
 -- ---- what is left
 

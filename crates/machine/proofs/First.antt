@@ -7,7 +7,7 @@ use mathlib.Core.Bool.{Bool, true, false, cond}
 use mathlib.Core.List.{List, [], _∷_, _++_}
 use native.Mathlib.Omega.{arith}
 use Rattle.evex.specs.First.{firstOf}
-use Rattle.machine.specs.Answers.{NoneHolds, IsFirst}
+use Rattle.machine.specs.Answers.{NoneHolds, IsFirst, InOrder}
 
 -- where nothing of a first list holds, the second decides
 pub first-append : {A : Type 0} (xs ys : List (Bool × A)) (d : A) → firstOf (xs ++ ys) d ≡ firstOf xs (firstOf ys d)
@@ -57,3 +57,7 @@ first-is (c ∷ cs) n h e = go (c .0) refl (first-is cs n h) e
     go false f later e =
         let l : IsFirst cs n = later e in
         record { earlier = c ∷ l .earlier; later = l .later; order = ap (λ (ds : List (Bool × ℕ)). c ∷ ds) (l .order); none = (f, l .none) }
+
+-- all of it: conditions with numbers other than 0 give theirs in order
+pub in-order : (cs : List (Bool × ℕ)) → NonZero cs → InOrder cs (firstOf cs 0)
+in-order cs h = record { done = (holds-none cs h, none-holds cs 0); given = λ k z. (first-is cs k z, is-first cs 0 k) }

@@ -21,12 +21,12 @@ pub record IsFirst (cs : List (Bool × ℕ)) (n : ℕ) : Type 0 where
   pub order : cs ≡ earlier ++ ((true, n) ∷ later)
   pub none : NoneHolds earlier
 
--- Demand 1, for the number n of a step. `conditions` has document 01's order, from 1 to 8.
-pub record Order (memory : List ℕ) (s : State) (code : List ℕ) (n : ℕ) : Type 0 where
+-- Demand 1, of the number n, where the conditions stand in document 01's order.
+pub record InOrder (cs : List (Bool × ℕ)) (n : ℕ) : Type 0 where
   -- 0 is given exactly when no condition holds
-  pub done : (n ≡ 0) ↔ NoneHolds (conditions memory s code)
+  pub done : (n ≡ 0) ↔ NoneHolds cs
   -- any other number exactly when its condition holds and no earlier one does
-  pub given : (k : ℕ) → k ≢ 0 → (n ≡ k) ↔ IsFirst (conditions memory s code) k
+  pub given : (k : ℕ) → k ≢ 0 → (n ≡ k) ↔ IsFirst cs k
 
 -- What a step leaves that was given the state s: the table's last column. (The new vector file is in Lanes.antt.)
 pub record Leaves (s : State) (o : Stepped) : Type 0 where
@@ -49,8 +49,8 @@ pub record Leaves (s : State) (o : Stepped) : Type 0 where
   -- "the length is 0 unless the number is 0"
   pub length : o .answer .number ≢ 0 → o .answer .length ≡ 0
 
--- Of every step.
+-- Of every step; `conditions` has the order from 1 to 8.
 abbrev pub Answers : Type 0
 Answers =
     (memory : List ℕ) (s : State) (code : List ℕ)
-    → Order memory s code (step memory s code .answer .number) × Leaves s (step memory s code)
+    → InOrder (conditions memory s code) (step memory s code .answer .number) × Leaves s (step memory s code)

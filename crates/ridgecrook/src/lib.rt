@@ -4,6 +4,7 @@ ghost use Rattle.half.specs.Numbers.{modeOf, yes, answered};
 ghost use Rattle.half.specs.Operations.{halfAdd, halfSubtract, halfMultiply, halfDivide, halfRoot, halfMultiplyAdd};
 ghost use Rattle.machine.specs.Step.{step};
 ghost use Rattle.step.specs.Stepped.{stateOf, steppedOf};
+ghost use Rattle.saved.specs.Saved.{save, load};
 use half::Mode;
 use half::Rounded;
 use machine::Answer;
@@ -70,4 +71,32 @@ pub extern "C" fn ridgecrook_step(
     ensures { λ r. ⌜ steppedOf r (now (vectors .exit)) (now (masks .exit)) (now (general .entry)) (now (control .exit)) (now (pointer .exit)) ≡ step (now (memory .entry)) (stateOf (now (vectors .entry)) (now (masks .entry)) (now (general .entry)) (now (control .entry)) (now (pointer .entry))) (now (code .entry)) ⌝ }
 {
     step::step(vectors, masks, general, control, pointer, code, memory)
+}
+
+#[no_mangle]
+pub extern "C" fn ridgecrook_save(
+    vectors: &[u8],
+    masks: &[u64; 8],
+    general: &[u64; 16],
+    control: u32,
+    pointer: u64,
+    target: &mut [u8],
+) -> u32
+    ensures { λ r. ⌜ record { number = r; target = now (target .exit) } ≡ save (stateOf (now (vectors .entry)) (now (masks .entry)) (now (general .entry)) control pointer) (now (target .entry)) ⌝ }
+{
+    saved::save(vectors, masks, general, control, pointer, target)
+}
+
+#[no_mangle]
+pub extern "C" fn ridgecrook_load(
+    saved: &[u8],
+    vectors: &mut [u8],
+    masks: &mut [u64; 8],
+    general: &mut [u64; 16],
+    control: &mut u32,
+    pointer: &mut u64,
+) -> u32
+    ensures { λ r. ⌜ record { number = r; state = stateOf (now (vectors .exit)) (now (masks .exit)) (now (general .exit)) (now (control .exit)) (now (pointer .exit)) } ≡ load (now (saved .entry)) (stateOf (now (vectors .entry)) (now (masks .entry)) (now (general .entry)) (now (control .entry)) (now (pointer .entry))) ⌝ }
+{
+    saved::load(saved, vectors, masks, general, control, pointer)
 }

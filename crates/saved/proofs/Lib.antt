@@ -1,0 +1,10 @@
+pub mod Slices
+pub mod Written
+pub mod Numbers
+pub mod Registers
+pub mod Places
+pub mod Answered
+pub mod Saving
+pub mod Loading
+pub mod Refusals
+pub mod Trips

@@ -1,0 +1,88 @@
+-- Document 01, 'Saved state and the command': saving and loading, with their refusals in order.
+use Prim.Native.Nat.{ℕ, _<_, _^_}
+use mathlib.Core.Bool.{Bool, false, cond, not}
+use mathlib.Core.List.{List, [], _∷_}
+use mathlib.Core.Path.{_≡_}
+use lib.Dec.{eqb}
+use lib.ListN.{length, getD}
+use Rattle.evex.specs.First.{firstOf}
+use Rattle.machine.specs.State.{State}
+use Rattle.machine.specs.Step.{wrongVectorFile, highControlBit}
+use Rattle.saved.specs.Form.{numberIn, savedSize, savedForm, loadedState}
+
+-- ---- saving: "Saving checks in order the vector file's size, the target's size (both 1), control word (2)."
+
+unfoldable pub wrongTarget : List ℕ → Bool
+wrongTarget target = not (eqb (length target) savedSize)
+
+unfoldable pub saveConditions : State → List ℕ → List (Bool × ℕ)
+saveConditions s target = (wrongVectorFile s, 1) ∷ (wrongTarget target, 1) ∷ (highControlBit s, 2) ∷ []
+
+-- the answer's number, and the target as it is left
+pub record Save : Type 0 where
+  pub number : ℕ
+  pub target : List ℕ
+
+unfoldable pub save : State → List ℕ → Save
+save s target =
+    let n : ℕ = firstOf (saveConditions s target) 0 in
+    record { number = n; target = cond (eqb n 0) (savedForm s) target }
+
+-- ---- loading: "Loading checks in order the size of the lent vector file (1), total size, length field and version (10), control word
+-- (2); refused, it hands back the state it was given."
+
+unfoldable pub wrongSize : List ℕ → Bool
+wrongSize bytes = not (eqb (length bytes) savedSize)
+
+unfoldable pub wrongLength : List ℕ → Bool
+wrongLength bytes = not (eqb (numberIn bytes 0 4) 2253)
+
+unfoldable pub wrongVersion : List ℕ → Bool
+wrongVersion bytes = not (eqb (getD bytes 4 0) 1)
+
+unfoldable pub loadConditions : List ℕ → State → List (Bool × ℕ)
+loadConditions bytes s =
+    (wrongVectorFile s, 1)
+    ∷ (wrongSize bytes, 10)
+    ∷ (wrongLength bytes, 10)
+    ∷ (wrongVersion bytes, 10)
+    ∷ (highControlBit (loadedState bytes), 2)
+    ∷ []
+
+-- the answer's number, and the state as it is left
+pub record Load : Type 0 where
+  pub number : ℕ
+  pub state : State
+
+unfoldable pub load : List ℕ → State → Load
+load bytes s =
+    let n : ℕ = firstOf (loadConditions bytes s) 0 in
+    record { number = n; state = cond (eqb n 0) (loadedState bytes) s }
+
+-- ---- round trips
+
+abbrev pub Each : (ℕ → Type 0) → List ℕ → Type 0
+Each P [] = Unit {0}
+Each P (x ∷ xs) = P x × Each P xs
+
+-- A state that the machine can hold and save: what the round trips suppose of a state.
+pub record Savable (s : State) : Type 0 where
+  pub vectorsSize : length (s .vectors) ≡ 2048
+  pub vectors : Each (λ b. b < 256) (s .vectors)
+  pub masksCount : length (s .masks) ≡ 8
+  pub masks : Each (λ m. m < 2 ^ 64) (s .masks)
+  pub generalCount : length (s .general) ≡ 16
+  pub general : Each (λ g. g < 2 ^ 64) (s .general)
+  pub control : s .control < 2 ^ 16
+  pub pointer : s .pointer < 2 ^ 64
+
+-- "Loading what was saved gives the same state": into any state whose vector file has its size.
+abbrev pub LoadAfterSave : Type 0
+LoadAfterSave =
+    (s t : State) → Savable s → wrongVectorFile t ≡ false → load (savedForm s) t ≡ record { number = 0; state = s }
+
+-- "and saving what was loaded gives the same bytes": into any target of the right size.
+abbrev pub SaveAfterLoad : Type 0
+SaveAfterLoad =
+    (bytes target : List ℕ) (t : State) → Each (λ b. b < 256) bytes → length target ≡ savedSize → load bytes t .number ≡ 0
+    → save (load bytes t .state) target ≡ record { number = 0; target = bytes }

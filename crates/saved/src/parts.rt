@@ -1,0 +1,78 @@
+// Parts of the saved form: numbers, registers, bytes. A part is lent, so its length says how many bytes there are.
+ghost use mathlib.Core.Path.{_≡_};
+ghost use Prim.Native.Nat.{_*_, _/_, _%_, _^_, _≤_, _<_};
+ghost use lib.ListN.{length};
+ghost use Rattle.machine.specs.Lists.{table};
+ghost use Rattle.saved.specs.Form.{big, valueFrom, numberIn, registers};
+
+fn wide(x: u8) -> u64
+    ensures { λ r. ⌜ (r ≡ x) × (r < 256) ⌝ }
+{
+    x as u64
+}
+
+// The byte of x that has `below` bytes below it.
+fn byte_of(x: u64, below: usize) -> u8
+    requires { ⌜ below < 8 ⌝ }
+    ensures { λ r. ⌜ r ≡ x / 256 ^ below % 256 ⌝ }
+{
+    ((x >> (8 * below)) % 256) as u8
+}
+
+// A number over the whole of a part, the highest byte first.
+pub(crate) fn put_number(part: &mut [u8], x: u64)
+    requires { ⌜ length (now part) ≤ 8 ⌝ }
+    ensures { λ _. ⌜ now (part .exit) ≡ big (length (now (part .entry))) x ⌝ }
+{
+    let n = part.len();
+    for k in 0..n {
+        let below = n - 1 - k;
+        part[k] = byte_of(x, below);
+    }
+}
+
+// The number that a part stands for.
+pub(crate) fn read_number(part: &[u8]) -> u64
+    requires { ⌜ length (now part) ≤ 8 ⌝ }
+    ensures { λ r. ⌜ r ≡ valueFrom 0 (now (part .entry)) ⌝ }
+{
+    let mut x = 0;
+    for k in 0..part.len() {
+        x = x * 256 + wide(part[k]);
+    }
+    x
+}
+
+// Registers of 8 bytes each over a part.
+pub(crate) fn put_registers(part: &mut [u8], values: &[u64])
+    requires { ⌜ length (now part) ≡ 8 * length (now values) ⌝ }
+    ensures { λ _. ⌜ now (part .exit) ≡ registers (length (now (values .entry))) (now (values .entry)) ⌝ }
+{
+    for k in 0..values.len() {
+        let at = 8 * k;
+        let end = 8 * (k + 1);
+        put_number(&mut part[at..end], values[k]);
+    }
+}
+
+// The registers that stand in a part.
+pub(crate) fn read_registers(part: &[u8], values: &mut [u64])
+    requires { ⌜ length (now part) ≡ 8 * length (now values) ⌝ }
+    ensures { λ _. ⌜ now (values .exit) ≡ table (length (now (values .entry))) (λ k. numberIn (now (part .entry)) (8 * k) 8) ⌝ }
+{
+    for k in 0..values.len() {
+        let at = 8 * k;
+        let end = 8 * (k + 1);
+        values[k] = read_number(&part[at..end]);
+    }
+}
+
+// Bytes over a part of the same length.
+pub(crate) fn copy(part: &mut [u8], bytes: &[u8])
+    requires { ⌜ length (now part) ≡ length (now bytes) ⌝ }
+    ensures { λ _. ⌜ now (part .exit) ≡ now (bytes .entry) ⌝ }
+{
+    for k in 0..bytes.len() {
+        part[k] = bytes[k];
+    }
+}
