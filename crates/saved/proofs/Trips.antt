@@ -5,7 +5,7 @@ use mathlib.Core.Bool.{false, not}
 use mathlib.Core.List.{List, [], _∷_}
 use mathlib.Core.Path.{_≡_, sym, ap, _∙_}
 use native.Mathlib.Omega.{arith}
-use borrow.Author.Tests.{eqb-true, eq-eqb, lt-leb, not-false}
+use borrow.Author.Tests.{eqb-true, eq-eqb, lt-leb, leb-false, not-false}
 use lib.Dec.{eqb, lit≤}
 use lib.ListN.{length, getD, take, drop, length-drop, take-append-drop}
 use lib.Seq.{getD-take, getD-drop, drop-cons}
@@ -15,18 +15,22 @@ use Rattle.machine.specs.State.{State}
 use Rattle.machine.specs.Step.{wrongVectorFile, highControlBit}
 use Rattle.machine.proofs.First.{none-holds, holds-none}
 use Rattle.saved.specs.Form.{big, valueFrom, numberIn, registers, numbers, savedForm, loadedState}
-use Rattle.saved.specs.Saved.{wrongTarget, saveConditions, save, wrongSize, wrongLength, wrongVersion, loadConditions, Load, load, Each, Savable, LoadAfterSave, SaveAfterLoad}
+use Rattle.saved.specs.Saved.{wrongTarget, saveConditions, Save, save, wrongSize, wrongLength, wrongVersion, loadConditions, Load, load, Each, Held, LoadAfterSave, SaveAfterLoad}
 use Rattle.saved.proofs.Slices.{part-part, part-next, length-part, each-part}
 use Rattle.saved.proofs.Numbers.{value-big, big-value}
 use Rattle.saved.proofs.Registers.{read-registers, write-registers}
 use Rattle.saved.proofs.Places.{control-there, pointer-there, general-there, masks-there, length-saved, length-there, version-there, numbers-there, vectors-there}
 use Rattle.saved.proofs.Loading.{registers-in}
 use Rattle.saved.proofs.Answered.{save-done, load-done}
-use Rattle.saved.proofs.Refusals.{load-non-zero}
+use Rattle.saved.proofs.Refusals.{save-non-zero, load-non-zero}
+
+-- a condition that does not hold, as a fact
+equal : (a b : ℕ) → not (eqb a b) ≡ false → a ≡ b
+equal a b h = eqb-true a b (not-false (eqb a b) h)
 
 -- ---- loading what was saved
 
-module _ (s : State) (S : Savable s) where
+module _ (s : State) (file : length (s .vectors) ≡ 2048) (low : s .control < 2 ^ 16) (S : Held s) where
   -- a part of the numbers, in the saved form
   inside : (at n : ℕ) → at + n ≤ 204 → take n (drop (5 + at) (savedForm s)) ≡ take n (drop at (numbers (s .control) (s .pointer) (s .general) (s .masks)))
   inside at n h = sym (part-part 5 204 at n (savedForm s) h) ∙ ap (λ (l : List ℕ). take n (drop at l)) (numbers-there s)
@@ -34,7 +38,7 @@ module _ (s : State) (S : Savable s) where
   control-read : numberIn (savedForm s) 5 4 ≡ s .control
   control-read =
       ap (valueFrom 0) (inside 0 4 (lit≤ tt) ∙ control-there (s .control) (s .pointer) (s .general) (s .masks))
-      ∙ value-big 4 (s .control) (omega (arith, S .control))
+      ∙ value-big 4 (s .control) (omega arith)
 
   pointer-read : numberIn (savedForm s) 9 8 ≡ s .pointer
   pointer-read =
@@ -66,21 +70,26 @@ module _ (s : State) (S : Savable s) where
   none-refuses t h = (
     h,
     (
-      rw (eq-eqb (length (savedForm s)) 2257 (length-saved s ∙ rw (S .vectorsSize))),
+      rw (eq-eqb (length (savedForm s)) 2257 (length-saved s ∙ rw file)),
       (
         rw (length-there s, value-big 4 2253 (lit≤ tt)),
         (
           rw version-read,
-          (rw state-back (lt-leb (2 ^ 16) (s .control) (S .control)), tt),
+          (rw state-back (lt-leb (2 ^ 16) (s .control) low), tt),
         ),
       ),
     ),
   )
 
 pub load-after-save : LoadAfterSave
-load-after-save s t S h =
-    load-done (savedForm s) t (none-holds (loadConditions (savedForm s) t) 0 (none-refuses s S t h))
-    ∙ ap (λ (x : State). record { number = 0; state = x }) (state-back s S)
+unfolding save saveConditions wrongVectorFile highControlBit
+load-after-save s t target S done h =
+    let passed : NoneHolds (saveConditions s target) = holds-none (saveConditions s target) (save-non-zero s target) done in
+    let file : length (s .vectors) ≡ 2048 = equal (length (s .vectors)) 2048 (passed .0) in
+    let low : s .control < 2 ^ 16 = leb-false (2 ^ 16) (s .control) (passed .1 .1 .0) in
+    ap (λ (r : Save). load (r .target) t) (save-done s target done)
+    ∙ load-done (savedForm s) t (none-holds (loadConditions (savedForm s) t) 0 (none-refuses s file low S t h))
+    ∙ ap (λ (x : State). record { number = 0; state = x }) (state-back s file low S)
 
 -- ---- saving what was loaded
 
@@ -106,10 +115,6 @@ module _ (bytes : List ℕ) (size : length bytes ≡ 2257) (small : Each (λ b. 
       let first : big 4 2253 ≡ take 4 (drop 0 bytes) = ap (big 4) (sym long) ∙ number-back 0 4 (lit≤ tt) in
       let second : 1 ∷ [] ≡ take 1 (drop 4 bytes) = rw (drop-cons bytes 4 0 (omega arith), one) in
       rw (first, second, numbers-back, part-next 0 4 1 bytes, part-next 0 5 204 bytes) (take-append-drop 209 bytes)
-
--- a condition that does not hold, as a fact
-equal : (a b : ℕ) → not (eqb a b) ≡ false → a ≡ b
-equal a b h = eqb-true a b (not-false (eqb a b) h)
 
 module _ (bytes target : List ℕ) (t : State) (room : length target ≡ 2257) (passed : NoneHolds (loadConditions bytes t)) where
   size : length bytes ≡ 2257

@@ -65,21 +65,19 @@ abbrev pub Each : (ℕ → Type 0) → List ℕ → Type 0
 Each P [] = Unit {0}
 Each P (x ∷ xs) = P x × Each P xs
 
--- A state that the machine can hold and save: what the round trips suppose of a state.
-pub record Savable (s : State) : Type 0 where
-  pub vectorsSize : length (s .vectors) ≡ 2048
-  pub vectors : Each (λ b. b < 256) (s .vectors)
+-- A state that the machine's registers can hold: what the round trip supposes of a state. Its vector file may have any size.
+pub record Held (s : State) : Type 0 where
   pub masksCount : length (s .masks) ≡ 8
   pub masks : Each (λ m. m < 2 ^ 64) (s .masks)
   pub generalCount : length (s .general) ≡ 16
   pub general : Each (λ g. g < 2 ^ 64) (s .general)
-  pub control : s .control < 2 ^ 16
   pub pointer : s .pointer < 2 ^ 64
 
 -- "Loading what was saved gives the same state": into any state whose vector file has its size.
 abbrev pub LoadAfterSave : Type 0
 LoadAfterSave =
-    (s t : State) → Savable s → wrongVectorFile t ≡ false → load (savedForm s) t ≡ record { number = 0; state = s }
+    (s t : State) (target : List ℕ) → Held s → save s target .number ≡ 0 → wrongVectorFile t ≡ false
+    → load (save s target .target) t ≡ record { number = 0; state = s }
 
 -- "and saving what was loaded gives the same bytes": into any target of the right size.
 abbrev pub SaveAfterLoad : Type 0
