@@ -10,7 +10,6 @@ use lib.Dec.{leb, ltb, eqb}
 use lib.Bits.{bitAnd}
 use lib.ListN.{length, getD}
 use lib.Seq.{paste}
-use Rattle.evex.specs.Bits.{bits}
 use Rattle.evex.specs.declared.Base.{Base}
 use Rattle.evex.specs.declared.Base.the-variants as base
 use Rattle.evex.specs.declared.Index.{Index}
@@ -27,7 +26,7 @@ use Rattle.half.specs.Operations.{some}
 use Rattle.machine.specs.Lists.{table}
 use Rattle.machine.specs.State.{State, Stepped, registerAt}
 use Rattle.machine.specs.Memory.{on, indexValue, baseValue, wrapped, addressOf, wordAddress, bytesRead, needsOutside}
-use Rattle.machine.specs.Lanes.{Sources, roundingMode, unmasked, recorded, gathered, registerHalves, firstHalves, secondHalves, results, raised, raisesUnmasked, controlAfter, newRegister, vectorsAfter}
+use Rattle.machine.specs.Lanes.{Sources, roundingMode, unmasked, underflowUnmasked, recorded, gathered, registerHalves, firstHalves, secondHalves, results, raised, raisesUnmasked, controlAfter, newRegister, vectorsAfter}
 use Rattle.machine.specs.Step.{refused, stopped, completed, step}
 use Rattle.machine.proofs.Ends.{refuses-memory, stops, completes}
 use Rattle.machine.proofs.Tables.{table-equal, getD-table}
@@ -65,25 +64,24 @@ module _ (s : State) (i : Instruction) (next : ℕ) (n : next ≡ (s .pointer + 
 
   -- ---- sources
 
-  module _ (memory : List ℕ) where
-    register-is : (r : ℕ) → registerWhere (on s i) (s .vectors) r ≡ registerHalves s i r
-    unfolding registerHalves halvesWhere
-    register-is r = refl
+  register-is : (r : ℕ) → registerWhere (on s i) (s .vectors) r ≡ registerHalves s i r
+  unfolding registerHalves halvesWhere
+  register-is r = refl
 
-    first-is : (o : Source) → firstWhere (on s i) (s .vectors) o ≡ firstHalves s i o
-    first-is source.None = refl
-    first-is (source.Register r) = register-is r
+  first-is : (o : Source) → firstWhere (on s i) (s .vectors) o ≡ firstHalves s i o
+  first-is source.None = refl
+  first-is (source.Register r) = register-is r
 
-    second-is : (o : Operand) → secondWhere (on s i) (s .vectors) memory (s .general) next o ≡ secondHalves memory s i o
-    unfolding halvesWhere bytesRead wordAddress
-    second-is (operand.Register r) = register-is r
-    second-is (operand.Memory a broadcast) = rw (address-is a)
+  second-is : (memory : List ℕ) (o : Operand) → secondWhere (on s i) (s .vectors) memory (s .general) next o ≡ secondHalves memory s i o
+  unfolding halvesWhere bytesRead wordAddress
+  second-is memory (operand.Register r) = register-is r
+  second-is memory (operand.Memory a broadcast) = rw (address-is a)
 
 -- ---- lanes, and the destination: a result is 0 where its lane is off
 
 module _ (s : State) (i : Instruction) (g : Sources) where
   results-is :
-      resultsWhere (on s i) (i .operation) (roundingMode (i .rounding) (s .control)) (bits (unmasked (i .rounding) (s .control)) 4 1)
+      resultsWhere (on s i) (i .operation) (roundingMode (i .rounding) (s .control)) (underflowUnmasked (i .rounding) (s .control))
       (g .destination) (g .first) (g .second)
       ≡ record { halves = results s i g; flags = raised s i g }
   unfolding resultsWhere results raised
@@ -110,7 +108,7 @@ module _ (s : State) (i : Instruction) (g : Sources) where
 -- ---- the whole, from what the parts give
 
 -- with what an instruction does not write
-abbrev pub joined : State → Left → Stepped
+abbrev joined : State → Left → Stepped
 joined s l = steppedOf (l .answer) (l .vectors) (s .masks) (s .general) (l .control) (l .pointer)
 
 either : (s : State) (t : Bool) (x y : Left) → joined s (cond t x y) ≡ cond t (joined s x) (joined s y)
@@ -123,7 +121,7 @@ module _ (memory : List ℕ) (s : State) (i : Instruction) (p : ℕ → Bool) (e
   unfolding on
   lanes-are = e
 
-  pub outside-is : outside p (length memory) (s .general) next (i .second) ≡ needsOutside s i (length memory)
+  outside-is : outside p (length memory) (s .general) next (i .second) ≡ needsOutside s i (length memory)
   unfolding needsOutside
   outside-is = rw lanes-are (outside-by s i next n (length memory) (i .second))
 
@@ -132,21 +130,21 @@ module _ (memory : List ℕ) (s : State) (i : Instruction) (p : ℕ → Bool) (e
   refuses t = rw (← outside-is, t)
 
   module _ (inside : outside p (length memory) (s .general) next (i .second) ≡ false) (r : Results)
-      (computed : r ≡ resultsWhere p (i .operation) (roundingMode (i .rounding) (s .control)) (bits (unmasked (i .rounding) (s .control)) 4 1)
+      (computed : r ≡ resultsWhere p (i .operation) (roundingMode (i .rounding) (s .control)) (underflowUnmasked (i .rounding) (s .control))
       (registerWhere p (s .vectors) (i .destination)) (firstWhere p (s .vectors) (i .first))
       (secondWhere p (s .vectors) memory (s .general) next (i .second))) where
     computed-is : r ≡ record { halves = results s i (gathered memory s i); flags = raised s i (gathered memory s i) }
     unfolding gathered
     computed-is =
-        rw (computed, lanes-are, register-is s i next n memory (i .destination), first-is s i next n memory (i .first), second-is s i next n memory (i .second))
+        rw (computed, lanes-are, register-is s i next n (i .destination), first-is s i next n (i .first), second-is s i next n memory (i .second))
         (results-is s i (gathered memory s i))
 
-    pub finishes : joined s (finished p i r next (s .vectors) (s .control) (s .pointer)) ≡ executed memory s i
+    pub finishes : {l : Left} → l ≡ finished p i r next (s .vectors) (s .control) (s .pointer) → joined s l ≡ executed memory s i
     unfolding executed finished raisesUnmasked stopped completed controlAfter
-    finishes =
+    finishes left =
         let g = gathered memory s i in
         let control = recorded (i .rounding) (s .control) (raised s i g) in
-        rw (← outside-is, inside, computed-is, lanes-are, stored-is s i g, n)
+        rw (left, ← outside-is, inside, computed-is, lanes-are, stored-is s i g, n)
         (either s (not (eqb (bitAnd (raised s i g) (unmasked (i .rounding) (s .control))) 0))
         (leftOf (record { number = 8; length = 0 }) (s .vectors) control (s .pointer))
         (leftOf (record { number = 0; length = i .size }) (vectorsAfter s i (results s i g)) control ((s .pointer + i .size) % 2 ^ 64)))

@@ -36,7 +36,7 @@ xor-of (suc zero) (suc zero) h k = refl
 xor-of (suc zero) (suc (suc y)) h k = absurd (omega arith)
 xor-of (suc (suc x)) y h k = absurd (omega arith)
 
-pub and-bit : (a b j : ℕ) → isSet (bitAnd a b) j ≡ (isSet a j && isSet b j)
+and-bit : (a b j : ℕ) → isSet (bitAnd a b) j ≡ (isSet a j && isSet b j)
 and-bit a b j = rw (and-shr a b j, and-mod (a / 2 ^ j) (b / 2 ^ j) 1) (and-of (a / 2 ^ j % 2 ^ 1) (b / 2 ^ j % 2 ^ 1) (omega arith) (omega arith))
 
 xor-bit : (a b j : ℕ) → isSet (bitXor a b) j ≡ differs (isSet a j) (isSet b j)
@@ -50,7 +50,7 @@ ones-high m j e = rw (← e, ones-split (suc m) j) (digits-div (2 ^ suc m - 1) (
 ones-odd : (m : ℕ) → (2 ^ suc m - 1) % 2 ≡ 1
 ones-odd m = omega (arith, pow-pos m)
 
-pub ones-bit : (n j : ℕ) → isSet (2 ^ n - 1) j ≡ ltb j n
+ones-bit : (n j : ℕ) → isSet (2 ^ n - 1) j ≡ ltb j n
 ones-bit n j =
     elim (decLt j n) [
       | yes h ↦

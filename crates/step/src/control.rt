@@ -3,9 +3,8 @@ ghost use mathlib.Core.Path.{_≡_};
 ghost use mathlib.Core.Bool.{not};
 ghost use lib.Bits.{bitAnd, bitOr};
 ghost use lib.Dec.{eqb};
-ghost use Rattle.evex.specs.Bits.{bits};
 ghost use Rattle.machine.specs.State.{modeNumber, unmaskedFlags};
-ghost use Rattle.machine.specs.Lanes.{roundingMode, unmasked, recorded};
+ghost use Rattle.machine.specs.Lanes.{roundingMode, unmasked, underflowUnmasked, recorded};
 use evex::Rounding;
 
 pub struct Control {
@@ -56,7 +55,7 @@ impl Control {
 
     // Whether UE is unmasked: 1, or 0.
     pub(crate) fn underflow(self, rounding: Rounding) -> u32
-        ensures { λ r. ⌜ r ≡ bits (unmasked rounding (self .bits)) 4 1 ⌝ }
+        ensures { λ r. ⌜ r ≡ underflowUnmasked rounding (self .bits) ⌝ }
     {
         ((self.unmasked(rounding) >> 4) % 2) as u32
     }

@@ -54,7 +54,10 @@ fn finish(
     results: Results,
 ) -> Answer
     requires { ⌜ (length (now vectors) ≡ 2048) × Bounds i ⌝ }
-    ensures { λ r. ⌜ leftOf r (now (vectors .exit)) (now (control .exit)) (now (pointer .exit)) ≡ finished (isSet on) i results next (now (vectors .entry)) (now (control .entry)) (now (pointer .entry)) ⌝ }
+    ensures { λ r. ⌜
+        leftOf r (now (vectors .exit)) (now (control .exit)) (now (pointer .exit))
+        ≡ finished (isSet on) i results next (now (vectors .entry)) (now (control .entry)) (now (pointer .entry))
+        ⌝ }
 {
     let word = Control { bits: *control };
     let rounding = i.rounding;
@@ -85,7 +88,12 @@ fn execute(
     i: Instruction,
 ) -> Answer
     requires { ⌜ (length (now vectors) ≡ 2048) × Bounds i ⌝ }
-    ensures { λ r. ⌜ steppedOf r (now (vectors .exit)) (now (masks .entry)) (now (general .entry)) (now (control .exit)) (now (pointer .exit)) ≡ executed (now (memory .entry)) (stateOf (now (vectors .entry)) (now (masks .entry)) (now (general .entry)) (now (control .entry)) (now (pointer .entry))) i ⌝ }
+    ensures { λ r. ⌜
+        steppedOf r (now (vectors .exit)) (now (masks .entry)) (now (general .entry)) (now (control .exit)) (now (pointer .exit))
+        ≡ executed (now (memory .entry))
+        (stateOf (now (vectors .entry)) (now (masks .entry)) (now (general .entry)) (now (control .entry)) (now (pointer .entry)))
+        i
+        ⌝ }
 {
     let next = std::num::wrapping_add_u64(*pointer, i.size as u64);
     let on = lanes_on(masks, i.mask, i.lanes);
@@ -116,7 +124,12 @@ pub fn step(
     code: &[u8],
     memory: &[u8],
 ) -> Answer
-    ensures { λ r. ⌜ steppedOf r (now (vectors .exit)) (now (masks .exit)) (now (general .entry)) (now (control .exit)) (now (pointer .exit)) ≡ step (now (memory .entry)) (stateOf (now (vectors .entry)) (now (masks .entry)) (now (general .entry)) (now (control .entry)) (now (pointer .entry))) (now (code .entry)) ⌝ }
+    ensures { λ r. ⌜
+        steppedOf r (now (vectors .exit)) (now (masks .exit)) (now (general .entry)) (now (control .exit)) (now (pointer .exit))
+        ≡ step (now (memory .entry))
+        (stateOf (now (vectors .entry)) (now (masks .entry)) (now (general .entry)) (now (control .entry)) (now (pointer .entry)))
+        (now (code .entry))
+        ⌝ }
 {
     if vectors.len() != 2048 {
         return ended(1);

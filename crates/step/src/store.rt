@@ -2,7 +2,7 @@
 ghost use mathlib.Core.Path.{_≡_};
 ghost use mathlib.Core.Bool.{cond};
 ghost use Prim.Native.Nat.{_+_, _*_, _/_, _%_, _<_};
-ghost use lib.ListN.{length, getD, set};
+ghost use lib.ListN.{length, set};
 ghost use Rattle.evex.specs.Bits.{isSet};
 ghost use Rattle.step.specs.Work.{storedBytes, storedFile};
 use super::mask::has;
@@ -21,7 +21,10 @@ fn high_byte(half: u16) -> u8
 
 fn store_lane(register: &mut [u8], is_kept: bool, half: u16, j: usize)
     requires { ⌜ (length (now register) ≡ 64) × (j < 32) ⌝ }
-    ensures { λ _. ⌜ now (register .exit) ≡ cond «is_kept» (now (register .entry)) (set (set (now (register .entry)) (2 * j) (half % 256)) (2 * j + 1) (half / 256 % 256)) ⌝ }
+    ensures { λ _. ⌜
+        now (register .exit)
+        ≡ cond «is_kept» (now (register .entry)) (set (set (now (register .entry)) (2 * j) (half % 256)) (2 * j + 1) (half / 256 % 256))
+        ⌝ }
 {
     if is_kept {
         return;

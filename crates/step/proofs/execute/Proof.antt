@@ -1,9 +1,8 @@
 -- `step::execute` meets its contract: 7 by the addresses, and else what the lanes give: see proofs/Meaning.antt.
-use mathlib.Core.Path.{sym, ap, _∙_}
 use Rattle.evex.specs.Bits.{isSet}
 use Rattle.machine.specs.State.{State}
 use Rattle.step.specs.Stepped.{stateOf}
-use Rattle.step.proofs.Meaning.{refuses, joined, finishes}
+use Rattle.step.proofs.Meaning.{refuses, finishes}
 use borrow.Author.Needs.{needs}
 use Rattle.step.proofs.execute.Statement.{statement}
 use Rattle.step.proofs.execute.Tie as tie
@@ -25,9 +24,14 @@ ended-requires : tie.Need-ended-requires
 ended-requires c κs = search needs
 
 returns : tie.Need-returns
-returns c = rw (c .ended .ensures)
-    (refuses (c .before .before .before .before .before .before .before .before .args .memory .now) (state (c .before .before .before .before .before .before .before .before)) (c .before .before .before .before .before .before .before .before .args .i) (isSet (c .before .before .before .lanes-on .result)) (c .before .before .before .lanes-on .ensures) (c .before .before .before .before .wrapping-add-u64 .result) (c .before .before .before .before .wrapping-add-u64 .ensures)
-    (sym (c .before .before .is-outside .ensures) ∙ c .before .if1 .taken))
+returns c =
+    let tested : tie.After-is-outside = c .before .before in
+    let start : tie.Start = tested .before .before .before .before .before .before in
+    rw (c .ended .ensures)
+    (refuses (start .args .memory .now) (state start) (start .args .i)
+    (isSet (tested .before .lanes-on .result)) (tested .before .lanes-on .ensures)
+    (tested .before .before .wrapping-add-u64 .result) (tested .before .before .wrapping-add-u64 .ensures)
+    (rw (← tested .is-outside .ensures) (c .before .if1 .taken)))
 
 register-halves-requires : tie.Need-register-halves-requires
 register-halves-requires c κs = search needs
@@ -36,7 +40,10 @@ first-halves-requires : tie.Need-first-halves-requires
 first-halves-requires c κs = search needs
 
 second-halves-requires : tie.Need-second-halves-requires
-second-halves-requires c κs = (c .before .before .before .before .before .before .before .before .before .before .before .before .pre .0, c .before .before .before .before .before .before .before .before .before .before .before .before .pre .1 .second, sym (c .before .before .before .before .before .before .is-outside .ensures) ∙ c .before .before .before .before .before .if1 .left)
+second-halves-requires c κs =
+    let inside : tie.Else1 = c .before .before .before .before .before in
+    let start : tie.Start = inside .before .before .before .before .before .before .before in
+    (start .pre .0, start .pre .1 .second, rw (← inside .before .is-outside .ensures) (inside .if1 .left))
 
 rounding-mode-requires : tie.Need-rounding-mode-requires
 rounding-mode-requires c κs = search needs
@@ -54,10 +61,24 @@ same-length : tie.Need-same-length
 same-length c = search needs
 
 returns-2 : tie.Need-returns-2
-returns-2 c = ap (joined (state (c .before .before .before .before .before .before .before .before .before .before .before .before .before .before .before .before .before .before .before .before .before .before .before))) (c .before .before .finish .ensures)
-    ∙ finishes (c .before .before .before .before .before .before .before .before .before .before .before .before .before .before .before .before .before .before .before .before .before .before .before .args .memory .now) (state (c .before .before .before .before .before .before .before .before .before .before .before .before .before .before .before .before .before .before .before .before .before .before .before)) (c .before .before .before .before .before .before .before .before .before .before .before .before .before .before .before .before .before .before .before .before .before .before .before .args .i) (isSet (c .before .before .before .before .before .before .before .before .before .before .before .before .before .before .before .before .before .before .lanes-on .result)) (c .before .before .before .before .before .before .before .before .before .before .before .before .before .before .before .before .before .before .lanes-on .ensures) (c .before .before .before .before .before .before .before .before .before .before .before .before .before .before .before .before .before .before .before .wrapping-add-u64 .result) (c .before .before .before .before .before .before .before .before .before .before .before .before .before .before .before .before .before .before .before .wrapping-add-u64 .ensures)
-    (sym (c .before .before .before .before .before .before .before .before .before .before .before .before .before .before .before .before .before .is-outside .ensures) ∙ c .before .before .before .before .before .before .before .before .before .before .before .before .before .before .before .before .if1 .left) (c .before .before .before .before .before .before .all-lanes .result)
-    (rw (c .before .before .before .before .before .before .before .before .rounding-mode .ensures, c .before .before .before .before .before .before .before .underflow .ensures, c .before .before .before .before .before .before .before .before .before .before .before .before .before .before .register-halves .ensures, c .before .before .before .before .before .before .before .before .before .before .before .before .first-halves .ensures, c .before .before .before .before .before .before .before .before .before .before .second-halves .ensures) at (c .before .before .before .before .before .before .all-lanes .ensures))
+returns-2 c =
+    let lanes : tie.After-all-lanes = c .before .before .before .before .before .before in
+    let inside : tie.Else1 = lanes .before .before .before .before .before .before .before .before .before .before in
+    let start : tie.Start = inside .before .before .before .before .before .before .before in
+    finishes (start .args .memory .now) (state start) (start .args .i)
+    (isSet (inside .before .before .lanes-on .result)) (inside .before .before .lanes-on .ensures)
+    (inside .before .before .before .wrapping-add-u64 .result) (inside .before .before .before .wrapping-add-u64 .ensures)
+    (rw (← inside .before .is-outside .ensures) (inside .if1 .left))
+    (lanes .all-lanes .result)
+    (rw (
+      lanes .before .before .rounding-mode .ensures,
+      lanes .before .underflow .ensures,
+      lanes .before .before .before .before .before .before .before .before .register-halves .ensures,
+      lanes .before .before .before .before .before .before .first-halves .ensures,
+      lanes .before .before .before .before .second-halves .ensures,
+    )
+    at (lanes .all-lanes .ensures))
+    (c .before .before .finish .ensures)
 
 pub execute-spec : {M : Type 1} → statement M
 execute-spec =

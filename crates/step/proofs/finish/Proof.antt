@@ -17,8 +17,12 @@ ended-requires c κs = search needs
 
 returns : tie.Need-returns
 unfolding finished
-returns c = rw (← c .before .before .raises .ensures, c .before .if1 .taken, c .ended .ensures)
-    (ap (λ (word : Control). leftOf (record { number = 8; length = 0 }) (c .before .before .before .before .before .before .args .vectors .now) (word .bits) (c .before .before .before .before .before .before .args .pointer .now)) (c .before .before .before .recorded .ensures))
+returns c =
+    let raised : tie.After-raises = c .before .before in
+    let start : tie.Start = raised .before .before .before .before in
+    rw (← raised .raises .ensures, c .before .if1 .taken, c .ended .ensures)
+    (ap (λ (word : Control). leftOf (record { number = 8; length = 0 }) (start .args .vectors .now) (word .bits) (start .args .pointer .now))
+    (raised .before .recorded .ensures))
 
 lanes-kept-requires : tie.Need-lanes-kept-requires
 lanes-kept-requires c κs = search needs
@@ -34,7 +38,15 @@ same-length c = search needs
 
 returns-2 : tie.Need-returns-2
 unfolding finished
-returns-2 c = rw (← c .before .before .before .before .before .before .before .before .raises .ensures, c .before .before .before .before .before .before .before .if1 .left, c .before .before .before .before .before .before .before .before .before .recorded .ensures, c .before .before .before .store .ensures, c .before .before .before .before .before .lanes-kept .ensures)
+returns-2 c =
+    let raised : tie.After-raises = c .before .before .before .before .before .before .before .before in
+    rw (
+      ← raised .raises .ensures,
+      c .before .before .before .before .before .before .before .if1 .left,
+      raised .before .recorded .ensures,
+      c .before .before .before .store .ensures,
+      c .before .before .before .before .before .lanes-kept .ensures,
+    )
 
 pub finish-spec : {M : Type 1} → statement M
 finish-spec =

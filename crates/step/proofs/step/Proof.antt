@@ -17,13 +17,18 @@ ended-requires : tie.Need-ended-requires
 ended-requires c κs = search needs
 
 returns : tie.Need-returns
-returns c = rw (c .ended .ensures) (sym (refuses-size (c .before .before .before .before .before .args .memory .now) (state (c .before .before .before .before .before)) (c .before .before .before .before .before .args .code .now) (c .before .if1 .taken)))
+returns c =
+    let start : tie.Start = c .before .before .before .before .before in
+    rw (c .ended .ensures) (sym (refuses-size (start .args .memory .now) (state start) (start .args .code .now) (c .before .if1 .taken)))
 
 ended-requires-2 : tie.Need-ended-requires-2
 ended-requires-2 c κs = search needs
 
 returns-2 : tie.Need-returns-2
-returns-2 c = rw (c .ended2 .ensures) (sym (refuses-control (c .before .before .before .before .before .before .before .args .memory .now) (state (c .before .before .before .before .before .before .before)) (c .before .before .before .before .before .before .before .args .code .now) (c .before .before .before .if1 .left) (c .before .if2 .taken)))
+returns-2 c =
+    let start : tie.Start = c .before .before .before .before .before .before .before in
+    rw (c .ended2 .ensures)
+    (sym (refuses-control (start .args .memory .now) (state start) (start .args .code .now) (c .before .before .before .if1 .left) (c .before .if2 .taken)))
 
 decode-requires : tie.Need-decode-requires
 decode-requires c κs = search needs
@@ -41,18 +46,33 @@ ended-requires-3 : tie.Need-ended-requires-3
 ended-requires-3 c κs = search needs
 
 returns-3 : tie.Need-returns-3
-returns-3 c = rw (c .ended3 .ensures, c .before .refusal-number .ensures, c .before .before .enum-told .given .1)
-    (sym (refuses-decoding (c .before .before .before .before .before .before .before .before .before .before .before .args .memory .now) (state (c .before .before .before .before .before .before .before .before .before .before .before)) (c .before .before .before .before .before .before .before .before .before .before .before .args .code .now) (c .before .before .before .before .before .before .before .if1 .left) (c .before .before .before .before .before .if2 .left) (sym (c .before .before .before .before .decode .ensures) ∙ c .before .before .enum-told .given .1)))
+returns-3 c =
+    let told : tie.After-enum-told = c .before .before in
+    let start : tie.Start = told .before .before .before .before .before .before .before .before .before in
+    rw (c .ended3 .ensures, c .before .refusal-number .ensures, told .enum-told .given .1)
+    (sym
+    (refuses-decoding (start .args .memory .now) (state start) (start .args .code .now) (told .before .before .before .before .before .if1 .left) (told .before .before .before .if2 .left)
+    (sym (told .before .before .decode .ensures) ∙ told .enum-told .given .1)))
 
 execute-requires : tie.Need-execute-requires
-execute-requires c κs = (c .before .before .before .before .before .before .before .before .before .before .if1 .left, bounds (c .before .before .before .before .before .before .before .before .before .before .before .before .before .before .args .code .now) (sym (c .before .before .before .before .before .before .before .decode .ensures) ∙ c .before .before .before .before .before .decoded .given .1))
+execute-requires c κs =
+    let known : tie.After-decoded = c .before .before .before .before .before in (
+      known .before .before .before .before .before .if1 .left,
+      bounds (known .before .before .before .before .before .before .before .before .before .args .code .now) (sym (known .before .before .decode .ensures) ∙ known .decoded .given .1),
+    )
 
 same-length : tie.Need-same-length
 same-length c = search needs
 
 returns-4 : tie.Need-returns-4
-returns-4 c = c .before .before .execute .ensures
-    ∙ executes (c .before .before .before .before .before .before .before .before .before .before .before .before .before .before .before .before .before .args .memory .now) (state (c .before .before .before .before .before .before .before .before .before .before .before .before .before .before .before .before .before)) (c .before .before .before .before .before .before .before .before .before .before .before .before .before .before .before .before .before .args .code .now) (c .before .before .before .before .before .before .before .before .before .before .before .before .before .if1 .left) (c .before .before .before .before .before .before .before .before .before .before .before .if2 .left) (sym (c .before .before .before .before .before .before .before .before .before .before .decode .ensures) ∙ c .before .before .before .before .before .before .before .before .decoded .given .1)
+returns-4 c =
+    let known : tie.After-decoded = c .before .before .before .before .before .before .before .before in
+    let start : tie.Start = known .before .before .before .before .before .before .before .before .before in
+    rw
+    (← executes (start .args .memory .now) (state start) (start .args .code .now)
+    (known .before .before .before .before .before .if1 .left) (known .before .before .before .if2 .left)
+    (sym (known .before .before .decode .ensures) ∙ known .decoded .given .1))
+    (c .before .before .execute .ensures)
 
 pub step-spec : {M : Type 1} → statement M
 step-spec =

@@ -26,8 +26,17 @@ wrapping-add-u64-requires-2 c κs = search needs
 
 returns : tie.Need-returns
 unfolding addressFrom
-returns c = let f : mag (c .before .before .before .before .before .before .args .a .displacement) < 2 ^ 31 = omega (arith, c .before .before .struct-told .given) in
-    rw (c .wrapping-add-u642 .ensures, c .before .before .before .wrapping-add-u64 .ensures, c .before .wrapped .ensures, c .before .before .before .before .before .base-value .ensures, c .before .before .before .before .index-value .ensures, toZ-ofZ {w = w32} {z = c .before .before .before .before .before .before .args .a .displacement} (record { sfits = f }))
+returns c =
+    let d = c .before .before .before .before .before .before .args .a .displacement in
+    let f : mag d < 2 ^ 31 = omega (arith, c .before .before .struct-told .given) in
+    rw (
+      c .wrapping-add-u642 .ensures,
+      c .before .before .before .wrapping-add-u64 .ensures,
+      c .before .wrapped .ensures,
+      c .before .before .before .before .before .base-value .ensures,
+      c .before .before .before .before .index-value .ensures,
+      toZ-ofZ {w = w32} {z = d} (record { sfits = f }),
+    )
     (omega arith)
 
 pub address-spec : {M : Type 1} → statement M

@@ -57,10 +57,13 @@ loop-less : tie.Need-loop-less Inv-loop μ-loop
 loop-less c = omega arith
 
 loop-again : tie.Need-loop-again Inv-loop μ-loop
-loop-again c = let on = isSet (c .before .before .before .before .before .args .on) in
-    let lane = laneAt on (c .before .before .before .before .before .args .operation) (c .before .before .before .before .before .args .mode) (c .before .before .before .before .before .args .underflow) (c .before .before .before .before .before .args .t5) (c .before .before .before .before .before .args .t6) (c .before .before .before .before .before .args .t7) (c .before .before .before .before .loop .j) in (
-      more (c .before .before .before .before .loop .inv .0) (omega arith) (rw (c .before .lane-if .ensures, c .before .before .has .ensures) (half-if (on (c .before .before .before .before .loop .j)) lane)),
-      or-more (c .before .before .before .before .loop .inv .1) (rw (c .before .lane-if .ensures, c .before .before .has .ensures) (flags-if (on (c .before .before .before .before .loop .j)) lane)),
+loop-again c =
+    let turn : tie.At-loop Inv-loop μ-loop = c .before .before .before .before in
+    let args = turn .before .args in
+    let on = isSet (args .on) in
+    let lane = laneAt on (args .operation) (args .mode) (args .underflow) (args .t5) (args .t6) (args .t7) (turn .loop .j) in (
+      more (turn .loop .inv .0) (omega arith) (rw (c .before .lane-if .ensures, c .before .before .has .ensures) (half-if (on (turn .loop .j)) lane)),
+      or-more (turn .loop .inv .1) (rw (c .before .lane-if .ensures, c .before .before .has .ensures) (flags-if (on (turn .loop .j)) lane)),
     )
 
 returns : tie.Need-returns Inv-loop μ-loop

@@ -20,7 +20,9 @@ below-requires-2 : tie.Need-below-requires-2
 below-requires-2 c κs = search needs
 
 returns-2 : tie.Need-returns-2
-returns-2 c = rw (c .below2 .ensures) (on-some (c .before .before .before .args .masks .now) (c .before .before .before .args .mask) (c .before .before .before .args .lanes) (c .before .before .if1 .left))
+returns-2 c =
+    let args = c .before .before .before .args in
+    rw (c .below2 .ensures) (on-some (args .masks .now) (args .mask) (args .lanes) (c .before .before .if1 .left))
 
 pub lanes-on-spec : {M : Type 1} → statement M
 lanes-on-spec =

@@ -30,8 +30,10 @@ same-length : tie.Need-same-length
 same-length c = search needs
 
 returns : tie.Need-returns
-returns c = let e : c .before .before .before .before .before .args .n * 64 + 64 - c .before .before .before .before .before .args .n * 64 ≡ 64 = omega arith in
-    rw (c .before .before .store-lanes .ensures, e) (pasted (isSet (c .before .before .before .before .before .args .kept)) (c .before .before .before .before .before .args .halves) (c .before .before .before .before .before .args .vectors .now) (c .before .before .before .before .before .args .n))
+returns c =
+    let args = c .before .before .before .before .before .args in
+    let e : args .n * 64 + 64 - args .n * 64 ≡ 64 = omega arith in
+    rw (c .before .before .store-lanes .ensures, e) (pasted (isSet (args .kept)) (args .halves) (args .vectors .now) (args .n))
 
 pub store-spec : {M : Type 1} → statement M
 store-spec =

@@ -37,7 +37,12 @@ loop-less : tie.Need-loop-less Inv-loop μ-loop
 loop-less c = omega arith
 
 loop-again : tie.Need-loop-again Inv-loop μ-loop
-loop-again c = next (isSet (c .before .before .before .before .before .before .before .before .args .kept)) (c .before .before .before .before .before .before .before .before .args .t3) (c .before .before .before .before .before .before .before .before .args .register .now) (c .before .before .before .before .before .before .loop .j) (c .before .before .before .before .before .before .loop .inv) (omega arith) (rw (c .before .before .before .has .ensures) at (c .before .before .store-lane .ensures))
+loop-again c =
+    let stored : tie.After-store-lane Inv-loop μ-loop = c .before .before in
+    let turn : tie.At-loop Inv-loop μ-loop = stored .before .before .before .before in
+    let args = turn .before .before .args in
+    next (isSet (args .kept)) (args .t3) (args .register .now) (turn .loop .j) (turn .loop .inv) (omega arith)
+    (rw (stored .before .has .ensures) at (stored .store-lane .ensures))
 
 same-length : tie.Need-same-length Inv-loop μ-loop
 same-length c = c .before .loop .inv .size ∙ sym (c .before .before .before .pre)

@@ -1,0 +1,7 @@
+pub mod Writing
+pub mod Digits
+pub mod Sizes
+pub mod Lines
+pub mod Going
+pub mod Input
+pub mod Runs

@@ -1,0 +1,71 @@
+-- The lines from an offset on, a law for each turn of a loop that makes them; their lengths.
+-- Assumes nothing.
+use Prim.Native.Nat.{ℕ, zero, suc, _+_, _*_, _≤_, _<_}
+use mathlib.Core.Path.{_≡_, refl, sym, ap, _∙_}
+use mathlib.Core.Bool.{Bool, true, false, cond}
+use mathlib.Core.List.{List, [], _∷_, _++_}
+use native.Mathlib.Omega.{arith}
+use borrow.Author.Tests.{le-leb, lt-leb, eq-eqb, ne-eqb, leb-false, eqb-true}
+use lib.Dec.{eqb, leb}
+use lib.ListN.{length, drop, length-append}
+use Rattle.machine.specs.State.{State, Stepped}
+use Rattle.machine.specs.Step.{step}
+use Rattle.command.specs.Command.{decimal, hex8, stepLine, stopLine, linesFrom}
+use Rattle.command.proofs.Digits.{decimal-most, decimal-short, hex-eight}
+use Rattle.command.proofs.Sizes.{moves}
+
+module _ (memory code : List ℕ) where
+  -- as many steps as there are bytes left are enough
+  enough : (n m : ℕ) (s : State) (at : ℕ) → length code ≤ at + n → length code ≤ at + m → linesFrom n memory code s at ≡ linesFrom m memory code s at
+  unfolding linesFrom
+  enough zero zero s at h k = refl
+  enough zero (suc m) s at h k = let e : length code ≤ at = omega arith in rw (le-leb (length code) at e)
+  enough (suc n) zero s at h k = let e : length code ≤ at = omega arith in rw (le-leb (length code) at e)
+  enough (suc n) (suc m) s at h k = go (step memory s (drop at code)) (eqb (step memory s (drop at code) .answer .number) 0) refl
+      (λ e. enough n m _ _ (omega (arith, moves memory s (drop at code) e)) (omega (arith, moves memory s (drop at code) e)))
+    where
+      go : (o : Stepped) (t : Bool) → eqb (o .answer .number) 0 ≡ t
+          → (o .answer .number ≡ 0 → linesFrom n memory code (o .state) (at + o .answer .length) ≡ linesFrom m memory code (o .state) (at + o .answer .length))
+          → cond (leb (length code) at) (stopLine at)
+          (stepLine at (o .answer .number) (o .state .control) ++ cond t (linesFrom n memory code (o .state) (at + o .answer .length)) (stopLine at))
+          ≡ cond (leb (length code) at) (stopLine at)
+          (stepLine at (o .answer .number) (o .state .control) ++ cond t (linesFrom m memory code (o .state) (at + o .answer .length)) (stopLine at))
+      go o true e later = rw (later (eqb-true _ 0 e))
+      go o false e later = refl
+
+  -- all lines from an offset on
+  abbrev pub lines : State → ℕ → List ℕ
+  lines s at = linesFrom (length code) memory code s at
+
+  module _ (s : State) (at : ℕ) where
+    one-more : lines s at ≡ linesFrom (suc (length code)) memory code s at
+    one-more = enough (length code) (suc (length code)) s at (omega arith) (omega arith)
+
+    pub at-end : length code ≤ at → lines s at ≡ stopLine at
+    unfolding linesFrom
+    at-end h = enough (length code) 0 s at (omega arith) (omega arith)
+
+    module _ {o : Stepped} (e : o ≡ step memory s (drop at code)) (inside : at < length code) where
+      pub goes-on : o .answer .number ≡ 0
+          → lines s at ≡ stepLine at (o .answer .number) (o .state .control) ++ lines (o .state) (at + o .answer .length)
+      unfolding linesFrom
+      goes-on z = one-more ∙ rw (← e, lt-leb (length code) at inside, eq-eqb (o .answer .number) 0 z)
+
+      pub stops : (o .answer .number ≡ 0 → ⊥) → lines s at ≡ stepLine at (o .answer .number) (o .state .control) ++ stopLine at
+      unfolding linesFrom
+      stops z = one-more ∙ rw (← e, lt-leb (length code) at inside, ne-eqb (o .answer .number) 0 z)
+
+-- ---- lengths
+
+pub stop-most : (at : ℕ) → length (stopLine at) ≤ 26
+unfolding stopLine
+stop-most at = simp length-append (omega (arith, decimal-most at))
+
+pub step-most : (at number control : ℕ) → length (stepLine at number control) ≤ 51
+unfolding stepLine
+step-most at number control = simp length-append (omega (arith, decimal-most at, decimal-most number, hex-eight control))
+
+pub step-short : (at number control : ℕ) → at < 10000 → number ≡ 0 → length (stepLine at number control) ≤ 16
+unfolding stepLine
+step-short at number control h z =
+    simp length-append (omega (arith, decimal-short 3 at h, decimal-short 0 number (omega arith), hex-eight control))

@@ -1,0 +1,42 @@
+-- `command::code_length` meets its contract: the two bytes behind the saved state.
+-- Assumes nothing.
+use Prim.Native.Nat.{ℕ, _+_, _*_}
+use mathlib.Core.Path.{ap₂, _∙_}
+use native.Mathlib.Omega.{arith}
+use borrow.Author.Needs.{needs}
+use Rattle.command.proofs.Input.{two-bytes}
+use Rattle.command.proofs.code_length.Statement.{statement}
+use Rattle.command.proofs.code_length.Tie as tie
+
+shared-slice-read-wide : tie.Need-shared-slice-read-wide
+shared-slice-read-wide c = search needs
+
+wide-requires : tie.Need-wide-requires
+wide-requires c κs = search needs
+
+mul-result : tie.Need-mul-result
+mul-result c = search needs
+
+shared-slice-read-wide-2 : tie.Need-shared-slice-read-wide-2
+shared-slice-read-wide-2 c = search needs
+
+wide-requires-2 : tie.Need-wide-requires-2
+wide-requires-2 c κs = search needs
+
+add-result : tie.Need-add-result
+add-result c = search needs
+
+returns : tie.Need-returns
+returns c = (ap₂ (λ (a b : ℕ). a * 256 + b) (c .before .before .wide .ensures .0) (c .wide2 .ensures .0) ∙ two-bytes (c .before .before .before .before .before .args .input .now) (c .before .before .before .before .before .pre), omega arith)
+
+pub code-length-spec : {M : Type 1} → statement M
+code-length-spec =
+    tie.close
+    (tie.spec
+    shared-slice-read-wide
+    wide-requires
+    mul-result
+    shared-slice-read-wide-2
+    wide-requires-2
+    add-result
+    returns)

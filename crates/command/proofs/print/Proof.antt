@@ -1,0 +1,136 @@
+-- `command::print` meets its contract: bad by layout, bad by loading, or the lines of the steps.
+-- Assumes nothing.
+use mathlib.Core.Path.{_≡_, sym, _∙_}
+use mathlib.Core.Bool.{true}
+use native.Mathlib.Omega.{arith}
+use borrow.Author.Tests.{not-true, not-false}
+use borrow.Author.Needs.{needs}
+use lib.ListN.{length-take, length-drop}
+use Rattle.machine.specs.Lists.{table}
+use Rattle.command.specs.Command.{badInput, blank, isLaidOut}
+use Rattle.command.proofs.Input.{LaidOut, laid-out, bad-layout, bad-load, good-lines}
+use Rattle.command.proofs.print.Statement.{statement}
+use Rattle.command.proofs.print.Tie as tie
+
+-- what the first test leaves
+laid : (c : tie.Else1) → isLaidOut (c .before .before .before .before .args .input .now) ≡ true
+laid c = sym (c .before .is-laid-out .ensures) ∙ not-false _ (c .if1 .left)
+
+parts : (c : tie.Else1) → LaidOut (c .before .before .before .before .args .input .now)
+parts c = laid-out (c .before .before .before .before .args .input .now) (laid c)
+
+is-laid-out-requires : tie.Need-is-laid-out-requires
+is-laid-out-requires c κs = search needs
+
+slice-aggregate-put-text : tie.Need-slice-aggregate-put-text
+slice-aggregate-put-text c = search needs
+
+put-text-requires : tie.Need-put-text-requires
+put-text-requires c κs = search needs
+
+same-length : tie.Need-same-length
+same-length c = search needs
+
+returns : tie.Need-returns
+unfolding badInput
+returns c = rw (bad-layout (c .before .before .before .before .before .before .before .before .before .args .input .now) (sym (c .before .before .before .before .before .before .is-laid-out .ensures) ∙ not-true _ (c .before .before .before .before .before .if1 .taken))) (c .before .before .put-text .ensures)
+
+sub-load : tie.Need-sub-load
+sub-load c = search needs
+
+part-load-start : tie.Need-part-load-start
+part-load-start c = search needs
+
+part-load-end : tie.Need-part-load-end
+part-load-end c = omega (arith, parts c)
+
+slice-aggregate-load : tie.Need-slice-aggregate-load
+slice-aggregate-load c = search needs
+
+load-requires : tie.Need-load-requires
+load-requires c κs = search needs
+
+slice-aggregate-put-text-2 : tie.Need-slice-aggregate-put-text-2
+slice-aggregate-put-text-2 c = search needs
+
+put-text-requires-2 : tie.Need-put-text-requires-2
+put-text-requires-2 c κs = search needs
+
+same-length-2 : tie.Need-same-length-2
+same-length-2 c = search needs
+
+returns-2 : tie.Need-returns-2
+unfolding badInput blank table
+returns-2 c =
+    rw (bad-load (c .before .before .before .before .before .before .before .before .before .before .before .before .before .before .before .before .before .before .args .input .now) (laid (c .before .before .before .before .before .before .before .before .before .before .before .before .before .before)) _ _ (c .before .before .before .before .before .before .before .load .ensures) (c .before .before .before .before .before .if2 .taken)) (c .before .before .put-text2 .ensures)
+
+code-length-requires : tie.Need-code-length-requires
+code-length-requires c κs = parts (c .before .before .before .before .before .before .before .before .before) .head
+
+add-end : tie.Need-add-end
+add-end c = search needs
+
+slice-aggregate-put-lines : tie.Need-slice-aggregate-put-lines
+slice-aggregate-put-lines c = search needs
+
+sub-put-lines : tie.Need-sub-put-lines
+sub-put-lines c = search needs
+
+part-put-lines-start : tie.Need-part-put-lines-start
+part-put-lines-start c = search needs
+
+part-put-lines-end : tie.Need-part-put-lines-end
+part-put-lines-end c = omega (arith, parts (c .before .before .before .before .before .before .before .before .before .before .before .before .before .before .before), c .before .before .before .before .before .code-length .ensures .0)
+
+sub-put-lines-2 : tie.Need-sub-put-lines-2
+sub-put-lines-2 c = omega (arith, parts (c .before .before .before .before .before .before .before .before .before .before .before .before .before .before .before .before), c .before .before .before .before .before .before .code-length .ensures .0)
+
+part-put-lines-start-2 : tie.Need-part-put-lines-start-2
+part-put-lines-start-2 c = omega (arith, parts (c .before .before .before .before .before .before .before .before .before .before .before .before .before .before .before .before), c .before .before .before .before .before .before .code-length .ensures .0)
+
+part-put-lines-end-2 : tie.Need-part-put-lines-end-2
+part-put-lines-end-2 c = search needs
+
+put-lines-requires : tie.Need-put-lines-requires
+put-lines-requires c κs =
+    (simp (length-take, length-drop) (omega (arith, parts (c .before .before .before .before .before .before .before .before .before .before .before .before .before .before .before .before .before .before), c .before .before .before .before .before .before .before .before .code-length .ensures .0)), c .before .before .before .before .before .before .before .before .before .before .before .before .before .before .before .before .before .before .before .before .before .before .pre)
+
+same-length-3 : tie.Need-same-length-3
+same-length-3 c = search needs
+
+returns-3 : tie.Need-returns-3
+unfolding blank table
+returns-3 c =
+    rw (good-lines (c .before .before .before .before .before .before .before .before .before .before .before .before .before .before .before .before .before .before .before .before .before .before .before .before .before .before .args .input .now) (laid (c .before .before .before .before .before .before .before .before .before .before .before .before .before .before .before .before .before .before .before .before .before .before)) _ _ (c .before .before .before .before .before .before .before .before .before .before .before .before .before .before .before .load .ensures) (c .before .before .before .before .before .before .before .before .before .before .before .before .before .if2 .left) (c .before .before .before .before .before .before .before .before .before .before .before .before .code-length .result) (c .before .before .before .before .before .before .before .before .before .before .before .before .code-length .ensures .0))
+    (c .before .before .before .put-lines .ensures)
+
+pub print-spec : {M : Type 1} → statement M
+print-spec =
+    tie.close
+    (tie.spec
+    is-laid-out-requires
+    slice-aggregate-put-text
+    put-text-requires
+    same-length
+    returns
+    sub-load
+    part-load-start
+    part-load-end
+    slice-aggregate-load
+    load-requires
+    slice-aggregate-put-text-2
+    put-text-requires-2
+    same-length-2
+    returns-2
+    code-length-requires
+    add-end
+    slice-aggregate-put-lines
+    sub-put-lines
+    part-put-lines-start
+    part-put-lines-end
+    sub-put-lines-2
+    part-put-lines-start-2
+    part-put-lines-end-2
+    put-lines-requires
+    same-length-3
+    returns-3)

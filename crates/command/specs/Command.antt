@@ -1,0 +1,115 @@
+-- Document 01, 'Saved state and the command': what the command prints for what it reads.
+use Prim.Native.Nat.{ℕ, zero, suc, _+_, _-_, _/_, _%_, _^_, _≤_}
+use mathlib.Core.Bool.{Bool, cond, _&&_}
+use mathlib.Core.List.{List, [], _∷_, _++_}
+use mathlib.Core.Path.{_≡_}
+use lib.Dec.{eqb, ltb, leb}
+use lib.ListN.{length, take, drop}
+use Rattle.machine.specs.Lists.{table}
+use Rattle.machine.specs.State.{State, Stepped}
+use Rattle.machine.specs.Step.{step}
+use Rattle.saved.specs.Form.{numberIn, savedSize}
+use Rattle.saved.specs.Saved.{load}
+
+-- ---- numbers as text
+
+-- in decimal, of at most n digits
+unfoldable pub decimalOf : ℕ → ℕ → List ℕ
+decimalOf zero x = []
+decimalOf (suc n) x = cond (ltb x 10) ((48 + x) ∷ []) (decimalOf n (x / 10) ++ ((48 + x % 10) ∷ []))
+
+-- 20 digits are enough for 64 bits
+unfoldable pub decimal : ℕ → List ℕ
+decimal x = decimalOf 20 x
+
+-- a hex digit, lower-case
+abbrev pub hexDigit : ℕ → ℕ
+hexDigit x = cond (ltb x 10) (48 + x) (87 + x)
+
+-- "eight lower-case hex digits"
+unfoldable pub hex8 : ℕ → List ℕ
+hex8 x = table 8 (λ k. hexDigit (x / 16 ^ (7 - k) % 16))
+
+abbrev pub space : List ℕ
+space = 32 ∷ []
+
+abbrev pub lineFeed : List ℕ
+lineFeed = 10 ∷ []
+
+-- ---- lines
+
+-- "prints `offset number control`"
+unfoldable pub stepLine : ℕ → ℕ → ℕ → List ℕ
+stepLine at number control = decimal at ++ space ++ decimal number ++ space ++ hex8 control ++ lineFeed
+
+-- "prints `stop offset`": stop, with a space
+unfoldable pub stopLine : ℕ → List ℕ
+stopLine at = (115 ∷ 116 ∷ 111 ∷ 112 ∷ 32 ∷ []) ++ decimal at ++ lineFeed
+
+-- "prints only `bad input`"
+unfoldable pub badInput : List ℕ
+badInput = 98 ∷ 97 ∷ 100 ∷ 32 ∷ 105 ∷ 110 ∷ 112 ∷ 117 ∷ 116 ∷ lineFeed
+
+-- ---- "Each step is given the code from the present offset on and prints `offset number control`, the last .. as it stands after. It ends
+-- at the end of code or after a number other than 0 and prints `stop offset`."
+
+-- from an offset on, with n steps at most; a step that is done moves the offset, so as many as there are bytes of code are enough (Runs.antt)
+unfoldable pub linesFrom : ℕ → List ℕ → List ℕ → State → ℕ → List ℕ
+linesFrom zero memory code s at = stopLine at
+linesFrom (suc n) memory code s at =
+    let o : Stepped = step memory s (drop at code) in
+    cond (leb (length code) at) (stopLine at)
+    (stepLine at (o .answer .number) (o .state .control)
+    ++ cond (eqb (o .answer .number) 0) (linesFrom n memory code (o .state) (at + o .answer .length)) (stopLine at))
+
+-- ---- "reads from standard input a saved state, a 2-byte big-endian code length (at most 4,096), the code, then memory (at most 32,768
+-- bytes)"
+
+-- a state to load into
+unfoldable pub blank : State
+blank = record { vectors = table 2048 (λ k. 0); masks = table 8 (λ k. 0); general = table 16 (λ k. 0); control = 0; pointer = 0 }
+
+abbrev pub codeLength : List ℕ → ℕ
+codeLength input = numberIn input savedSize 2
+
+abbrev pub codeOf : List ℕ → List ℕ
+codeOf input = take (codeLength input) (drop (savedSize + 2) input)
+
+abbrev pub memoryOf : List ℕ → List ℕ
+memoryOf input = drop (savedSize + 2 + codeLength input) input
+
+abbrev pub startOf : List ℕ → State
+startOf input = load (take savedSize input) blank .state
+
+unfoldable pub isLaidOut : List ℕ → Bool
+isLaidOut input =
+    leb (savedSize + 2) (length input)
+    && leb (codeLength input) 4096
+    && leb (savedSize + 2 + codeLength input) (length input)
+    && leb (length (memoryOf input)) 32768
+
+unfoldable pub isGood : List ℕ → Bool
+isGood input = isLaidOut input && eqb (load (take savedSize input) blank .number) 0
+
+-- all that is printed
+unfoldable pub printed : List ℕ → List ℕ
+printed input =
+    cond (isGood input)
+    (linesFrom (length (codeOf input)) (memoryOf input) (codeOf input) (startOf input) 0)
+    badInput
+
+-- ---- a buffer that a text is put into
+
+-- n bytes, a text, were put at the start of a buffer, and fit it; what stands behind them is as before
+pub record Wrote (text before : List ℕ) (n : ℕ) (after : List ℕ) : Type 0 where
+  pub count : n ≡ length text
+  pub buffer : after ≡ text ++ drop (length text) before
+  pub within : n ≤ length after
+
+-- Every text fits: a step that is done moves the offset by 6 or more and prints 16 bytes at most, so 683 of them 10,928 (Runs.antt).
+abbrev pub room : ℕ
+room = 12288
+
+-- What the command puts into an output buffer: all that is printed, or nothing where the buffer is shorter than the room.
+unfoldable pub commanded : List ℕ → List ℕ → List ℕ
+commanded input output = cond (leb room (length output)) (printed input) []

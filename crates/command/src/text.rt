@@ -1,0 +1,73 @@
+// Numbers and lines as text. Each function puts its text into a lent buffer at a place, and returns the place behind it.
+ghost use mathlib.Core.Path.{_≡_};
+ghost use Prim.Native.Nat.{_+_, _≤_, _<_};
+ghost use lib.ListN.{length};
+ghost use Rattle.command.specs.Command.{decimal, hexDigit, hex8, stepLine, stopLine};
+ghost use Rattle.command.specs.Put.{Put};
+
+pub fn put_text(out: &mut [u8], at: usize, text: &[u8]) -> usize
+    requires { ⌜ at + length (now text) ≤ length (now out) ⌝ }
+    ensures { λ r. ⌜ Put (now (text .entry)) (now (out .entry)) at r (now (out .exit)) ⌝ }
+{
+    let mut k = 0;
+    while k < text.len() {
+        out[at + k] = text[k];
+        k += 1;
+    }
+    at + k
+}
+
+fn put_decimal(out: &mut [u8], at: usize, x: u64) -> usize
+    requires { ⌜ at + 20 ≤ length (now out) ⌝ }
+    ensures { λ r. ⌜ Put (decimal x) (now (out .entry)) at r (now (out .exit)) ⌝ }
+{
+    if x < 10 {
+        out[at] = 48 + x as u8;
+        return at + 1;
+    }
+    let last = put_decimal(out, at, x / 10);
+    out[last] = 48 + (x % 10) as u8;
+    last + 1
+}
+
+fn hex_digit(x: u32) -> u8
+    requires { ⌜ x < 16 ⌝ }
+    ensures { λ r. ⌜ r ≡ hexDigit x ⌝ }
+{
+    if x < 10 { 48 + x as u8 } else { 87 + x as u8 }
+}
+
+fn put_hex(out: &mut [u8], at: usize, x: u32) -> usize
+    requires { ⌜ at + 8 ≤ length (now out) ⌝ }
+    ensures { λ r. ⌜ Put (hex8 x) (now (out .entry)) at r (now (out .exit)) ⌝ }
+{
+    let mut k = 0;
+    while k < 8 {
+        out[at + k] = hex_digit((x >> (28 - 4 * k)) % 16);
+        k += 1;
+    }
+    at + k
+}
+
+// The line of a step: offset number control.
+pub fn put_step_line(out: &mut [u8], at: usize, offset: usize, number: u32, control: u32) -> usize
+    requires { ⌜ at + 51 ≤ length (now out) ⌝ }
+    ensures { λ r. ⌜ Put (stepLine offset number control) (now (out .entry)) at r (now (out .exit)) ⌝ }
+{
+    let mut next = put_decimal(out, at, offset as u64);
+    next = put_text(out, next, b" ");
+    next = put_decimal(out, next, number as u64);
+    next = put_text(out, next, b" ");
+    next = put_hex(out, next, control);
+    put_text(out, next, b"\n")
+}
+
+// The last line: stop offset.
+pub fn put_stop_line(out: &mut [u8], at: usize, offset: usize) -> usize
+    requires { ⌜ at + 26 ≤ length (now out) ⌝ }
+    ensures { λ r. ⌜ Put (stopLine offset) (now (out .entry)) at r (now (out .exit)) ⌝ }
+{
+    let mut next = put_text(out, at, b"stop ");
+    next = put_decimal(out, next, offset as u64);
+    put_text(out, next, b"\n")
+}
