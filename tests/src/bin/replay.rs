@@ -1,18 +1,24 @@
 //! Runs one printed line again, of the arithmetic or of a step:
 //! `cargo run --release --bin replay -- add m1 u0 3C00 BC00`
 //! `cargo run --release --bin replay -- step code=62F5744858C2 z1=3C00`
+//! A step is also shown as this machine's processor does it, where that can be.
 
 use ridgecrook_tests::case::Case;
 use ridgecrook_tests::compare::Compared;
 use ridgecrook_tests::library;
 use ridgecrook_tests::machine::Step;
+use ridgecrook_tests::processor::{has_extended_prefix, Processor};
+use ridgecrook_tests::witness::runnable;
 use std::process::exit;
 use std::str::FromStr;
 
 fn main() {
     let line = std::env::args().skip(1).collect::<Vec<_>>().join(" ");
     let agrees = if line.starts_with("step") {
-        replay(&read::<Step>(&line), library::step_outcome)
+        let step = read::<Step>(&line);
+        let agrees = replay(&step, library::step_outcome);
+        println!("processor       {}", by_processor(&step));
+        agrees
     } else {
         replay(&read::<Case>(&line), library::answer)
     };
@@ -37,4 +43,18 @@ fn replay<C: Compared>(case: &C, answer: fn(&C) -> C::Outcome) -> bool {
     println!("library         {}", case.shown(&outcome));
     println!("second program  {}", case.shown(&expected));
     outcome == expected
+}
+
+/// The processor's outcome, or why there is none.
+fn by_processor(step: &Step) -> String {
+    let mut processor = match Processor::here() {
+        Ok(processor) => processor,
+        Err(why) => return format!("skipped: {why}"),
+    };
+    let length = runnable(step, has_extended_prefix());
+    let outcome = length.and_then(|length| processor.step(step, length));
+    match outcome {
+        Some(outcome) => step.shown(&outcome),
+        None => "skipped: not an instruction that it is given".to_string(),
+    }
 }

@@ -53,3 +53,15 @@ pub fn is_in_the_middle(case: &Case) -> bool {
         Stage::Exact { value, .. } => rounding::is_in_the_middle(&value),
     }
 }
+
+/// Whether the exact result has at most 11 significant bits, whatever its exponent. This takes no
+/// part in an answer: it is for what a processor does where overflow is unmasked.
+pub fn fits_eleven_bits(case: &Case) -> bool {
+    let Some(mode) = Mode::numbered(case.mode) else {
+        return false;
+    };
+    match operations::before_rounding(case, mode) {
+        Stage::Decided { .. } => true,
+        Stage::Exact { value, .. } => rounding::fits_eleven_bits(&value),
+    }
+}

@@ -70,13 +70,7 @@ pub fn round(value: &Value, mode: Mode, underflow_unmasked: bool) -> (u16, u8) {
 /// The magnitude rounded to 11 significant bits, whatever the exponent.
 fn significant(value: &Value, mode: Mode) -> Magnitude {
     let x = &value.magnitude;
-    // The unit in which x holds 1,024 to 2,047 units. No exact result is 2,048 times 2 to the 40,
-    // and going down from there keeps what is multiplied out small.
-    let mut unit = 40;
-    while x.is_below(1024, unit) {
-        unit -= 1;
-    }
-    let count = last_not_above(1024, 2048, |count| !x.is_below(count, unit));
+    let (count, unit) = eleven_bits(x);
     let between = x.compare(count, unit) != Ordering::Equal;
     let middle = x.compare(2 * count + 1, unit - 1);
     if between && mode.goes_outward(value.negative, count % 2 == 1, middle) {
@@ -84,6 +78,23 @@ fn significant(value: &Value, mode: Mode) -> Magnitude {
     } else {
         Magnitude::scaled(count, unit)
     }
+}
+
+/// The unit, as a power of 2, in which x holds 1,024 to 2,047 units, and how many whole ones.
+fn eleven_bits(x: &Magnitude) -> (u128, i32) {
+    // No exact result is 2,048 times 2 to the 40, and going down from there keeps what is
+    // multiplied out small.
+    let mut unit = 40;
+    while x.is_below(1024, unit) {
+        unit -= 1;
+    }
+    let count = last_not_above(1024, 2048, |count| !x.is_below(count, unit));
+    (count, unit)
+}
+
+pub fn fits_eleven_bits(value: &Value) -> bool {
+    let (count, unit) = eleven_bits(&value.magnitude);
+    value.magnitude.compare(count, unit) == Ordering::Equal
 }
 
 /// The exact value rounded once on the half grid, and whether it was a half already. The value is

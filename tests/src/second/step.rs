@@ -119,14 +119,8 @@ fn compute(
 ) -> (Vec<Option<u16>>, u8) {
     let (mut halves, mut flags) = (Vec::new(), 0);
     for lane in operands {
-        let outcome = lane.map(|operands| {
-            super::answer(&Case {
-                operation: instruction.listed.operation,
-                mode: mode(machine, instruction),
-                underflow_unmasked: u32::from(unmasked(machine, instruction) >> 4 & 1),
-                operands,
-            })
-        });
+        let case = lane.map(|operands| lane_case(machine, instruction, operands));
+        let outcome = case.map(|case| super::answer(&case));
         halves.push(outcome.map(|outcome| outcome.half));
         flags |= outcome.map_or(0, |outcome| outcome.flags);
     }
@@ -134,6 +128,24 @@ fn compute(
         Some(_) => (halves, 0),
         None => (halves, flags),
     }
+}
+
+/// What the arithmetic is asked for a lane.
+fn lane_case(machine: &Machine, instruction: &Instruction, operands: [u16; 3]) -> Case {
+    Case {
+        operation: instruction.listed.operation,
+        mode: mode(machine, instruction),
+        underflow_unmasked: u32::from(unmasked(machine, instruction) >> 4 & 1),
+        operands,
+    }
+}
+
+/// What the arithmetic is asked for each lane that is on; nothing where the answer is 7. This takes
+/// no part in an answer: it is for tests that look at single lanes.
+pub fn lane_cases(before: &Step, instruction: &Instruction) -> Option<Vec<Case>> {
+    let lanes = gather(before, instruction)?;
+    let case = |operands| lane_case(&before.machine, instruction, operands);
+    Some(lanes.into_iter().flatten().map(case).collect())
 }
 
 /// Embedded, or 'mode in 13 and 14'.

@@ -1,0 +1,367 @@
+//! Every pair of halves: add, subtract, multiply and divide in the four modes, the library held
+//! against the processor. `cargo run --release --bin exhaustive -- [options]`
+//!
+//!   --operation NAME  only this one (add, subtract, multiply, divide)
+//!   --mode N          only this mode, 0 to 3
+//!   --share N         only one block of 32 pairs in N, for a trial
+//!
+//! Compared are the half of every pair, the flags of each 32 lanes together, and in one block of 64
+//! the flags of each lane alone (all exceptions masked). Where the processor has not the
+//! instructions, the second program takes its place on one block in 4,096.
+//!
+//! An operation and mode that is finished whole and without a difference is noted in
+//! target/exhaustive/finished.txt, for the library that was linked, and passed over from then on.
+
+use ridgecrook_tests::case::{Case, Operation, Outcome};
+use ridgecrook_tests::library::LIBRARY;
+use ridgecrook_tests::machine::ALL_MASKED;
+use ridgecrook_tests::processor::pairs::{on_pairs, Lanes, OnPairs, Pairs};
+use ridgecrook_tests::processor::{missing, model};
+use ridgecrook_tests::second;
+use std::io::Write;
+use std::path::PathBuf;
+use std::process::exit;
+use std::sync::atomic::{AtomicU64, Ordering};
+use std::time::{Duration, Instant};
+
+const OPERATIONS: [Operation; 4] = [
+    Operation::Add,
+    Operation::Subtract,
+    Operation::Multiply,
+    Operation::Divide,
+];
+
+/// Values of the first operand, and blocks of 32 values of the second.
+const FIRSTS: u64 = 1 << 16;
+const BLOCKS: u64 = 1 << 11;
+
+/// In one block of so many the flags of each lane are compared alone.
+const SINGLE: u64 = 64;
+
+/// Where the second program takes the processor's place.
+const SHARE_OF_SECOND: u64 = 4096;
+
+const PRINTED: u64 = 20;
+
+fn main() {
+    let options = Options::read();
+    let missing = missing();
+    let (witness, share) = match &missing {
+        None => (model(), options.share),
+        Some(why) => {
+            println!("skipped: {why}; the second program takes the processor's place on a sample");
+            let share = options.share.max(SHARE_OF_SECOND);
+            ("second program".to_string(), share)
+        }
+    };
+    let tasks = options.tasks(share, missing.is_none());
+    println!(
+        "exhaustive: {witness}, library {LINKED}, {} threads",
+        threads()
+    );
+    let progress = Progress::of(&tasks);
+    let mut failed = 0;
+    for task in &tasks {
+        let before = progress.pairs.load(Ordering::Relaxed);
+        let differences = task.run(&progress);
+        let pairs = progress.pairs.load(Ordering::Relaxed) - before;
+        let name = task.name();
+        println!("{name}: {pairs} pairs, {differences} blocks differ");
+        failed += u64::from(differences > 0);
+        if pairs == 1 << 32 && differences == 0 {
+            note(task, &witness);
+        }
+    }
+    println!("{} passed, {failed} failed", tasks.len() as u64 - failed);
+    if failed > 0 {
+        exit(1);
+    }
+}
+
+/// A sum of the archive that was linked, by build.rs.
+const LINKED: &str = env!("RIDGECROOK_LINKED");
+
+fn threads() -> usize {
+    std::thread::available_parallelism().map_or(1, usize::from)
+}
+
+struct Options {
+    operations: Vec<Operation>,
+    modes: Vec<u32>,
+    share: u64,
+}
+
+impl Options {
+    fn read() -> Options {
+        let mut options = Options {
+            operations: OPERATIONS.to_vec(),
+            modes: (0..4).collect(),
+            share: 1,
+        };
+        let mut words = std::env::args().skip(1);
+        while let Some(word) = words.next() {
+            let value = words.next().unwrap_or_default();
+            let taken = match word.as_str() {
+                "--operation" => options.take_operation(&value),
+                "--mode" => number(&value, 3).map(|mode| options.modes = vec![mode as u32]),
+                "--share" => number(&value, BLOCKS).map(|share| options.share = share.max(1)),
+                _ => None,
+            };
+            if taken.is_none() {
+                eprintln!("{word} {value}: --operation NAME, --mode 0 to 3, --share 1 to {BLOCKS}");
+                exit(2);
+            }
+        }
+        options
+    }
+
+    fn take_operation(&mut self, name: &str) -> Option<()> {
+        let found = OPERATIONS.into_iter().find(|o| o.name() == name)?;
+        self.operations = vec![found];
+        Some(())
+    }
+
+    /// What is to do; what was finished before is left out with a line.
+    fn tasks(&self, share: u64, by_processor: bool) -> Vec<Task> {
+        let finished = std::fs::read_to_string(notes()).unwrap_or_default();
+        let mut tasks = Vec::new();
+        for &operation in &self.operations {
+            for &mode in &self.modes {
+                let task = Task {
+                    operation,
+                    mode,
+                    share,
+                    processor: by_processor.then(|| on_pairs(operation)),
+                };
+                let known = format!("{} library {LINKED} ", task.name());
+                if share == 1 && finished.lines().any(|line| line.starts_with(&known)) {
+                    println!("{}: finished before", task.name());
+                } else {
+                    tasks.push(task);
+                }
+            }
+        }
+        tasks
+    }
+}
+
+fn number(text: &str, most: u64) -> Option<u64> {
+    text.parse().ok().filter(|&number| number <= most)
+}
+
+fn notes() -> PathBuf {
+    PathBuf::from(concat!(
+        env!("CARGO_MANIFEST_DIR"),
+        "/../target/exhaustive/finished.txt"
+    ))
+}
+
+fn note(task: &Task, witness: &str) {
+    let path = notes();
+    let folder = path.parent().expect("a file in a folder");
+    std::fs::create_dir_all(folder).expect("a folder below target/");
+    let mut options = std::fs::OpenOptions::new();
+    let file = options.create(true).append(true).open(&path);
+    let line = format!("{} library {LINKED} witness {witness}", task.name());
+    writeln!(file.expect("the file of what is finished"), "{line}").expect("a line is written");
+}
+
+/// An operation in a mode.
+struct Task {
+    operation: Operation,
+    mode: u32,
+    share: u64,
+    processor: Option<OnPairs>,
+}
+
+impl Task {
+    fn name(&self) -> String {
+        format!("{} m{}", self.operation.name(), self.mode)
+    }
+
+    /// With a share, about so many.
+    fn pairs(&self) -> u64 {
+        32 * FIRSTS * BLOCKS / self.share
+    }
+
+    /// All pairs on all cores: how many blocks differ.
+    fn run(&self, progress: &Progress) -> u64 {
+        let (next, differences) = (AtomicU64::new(0), AtomicU64::new(0));
+        let work = || loop {
+            let a = next.fetch_add(1, Ordering::Relaxed);
+            if a >= FIRSTS {
+                break;
+            }
+            let compared = self.with_first(a, &differences);
+            progress.pairs.fetch_add(32 * compared, Ordering::Relaxed);
+        };
+        std::thread::scope(|scope| {
+            let workers: Vec<_> = (0..threads()).map(|_| scope.spawn(work)).collect();
+            while !workers.iter().all(|worker| worker.is_finished()) {
+                std::thread::sleep(Duration::from_millis(20));
+                progress.show();
+            }
+        });
+        differences.into_inner()
+    }
+
+    /// All blocks with a first operand, or the share of them; how many.
+    fn with_first(&self, a: u64, differences: &AtomicU64) -> u64 {
+        let mut compared = 0;
+        for block in (self.first_block(a)..BLOCKS).step_by(self.share as usize) {
+            let single = (a + block).is_multiple_of(SINGLE);
+            let lanes = Block::of(a as u16, 32 * block as u16);
+            let differs = self.differs(&lanes, single);
+            if differs && differences.fetch_add(1, Ordering::Relaxed) < PRINTED {
+                self.print(&lanes);
+            }
+            compared += 1;
+        }
+        compared
+    }
+
+    /// The first block of the share, another for each first operand: 0 where all are taken.
+    fn first_block(&self, a: u64) -> u64 {
+        (a.wrapping_mul(0x9E37_79B9_7F4A_7C15) >> 32) % self.share
+    }
+
+    fn case(&self, a: u16, b: u16) -> Case {
+        Case {
+            operation: self.operation,
+            mode: self.mode,
+            underflow_unmasked: 0,
+            operands: [a, b, 0],
+        }
+    }
+
+    fn differs(&self, block: &Block, single: bool) -> bool {
+        let (pairs, flags) = self.library(block);
+        if pairs != self.witness(block, u32::MAX) {
+            return true;
+        }
+        let control = self.control();
+        let alone = |lane: usize| self.witness(block, 1 << lane).control;
+        single && (0..32).any(|lane| alone(lane) != control | u32::from(flags[lane]))
+    }
+
+    fn control(&self) -> u32 {
+        ALL_MASKED | self.mode << 13
+    }
+
+    /// What the library says of a block, and the flags of each lane.
+    #[inline(always)]
+    fn library(&self, block: &Block) -> (Pairs, [u8; 32]) {
+        let function = match self.operation {
+            Operation::Add => LIBRARY.add,
+            Operation::Subtract => LIBRARY.subtract,
+            Operation::Multiply => LIBRARY.multiply,
+            _ => LIBRARY.divide,
+        };
+        let (mut halves, mut flags, mut all) = ([0; 32], [0; 32], 0);
+        for lane in 0..32 {
+            let outcome = function(block.a[lane], block.b[lane], self.mode, 0);
+            // An answer other than 0 would show in the flags.
+            halves[lane] = outcome.half;
+            flags[lane] = outcome.flags | outcome.number << 6;
+            all |= flags[lane];
+        }
+        let control = self.control() | u32::from(all);
+        (Pairs { halves, control }, flags)
+    }
+
+    /// What the processor or the second program says of the lanes of `on`.
+    fn witness(&self, block: &Block, on: u32) -> Pairs {
+        if let Some(processor) = self.processor {
+            return processor(&block.a, &block.b, on, self.control());
+        }
+        let (mut halves, mut control) = ([0; 32], self.control());
+        for lane in (0..32).filter(|lane| on >> lane & 1 == 1) {
+            let outcome = second::answer(&self.case(block.a[lane], block.b[lane]));
+            halves[lane] = outcome.half;
+            control |= u32::from(outcome.flags);
+        }
+        Pairs { halves, control }
+    }
+
+    /// A line for `replay` for each lane of a block that differs alone.
+    fn print(&self, block: &Block) {
+        let (pairs, flags) = self.library(block);
+        for lane in 0..32 {
+            let (half, flags) = (pairs.halves[lane], flags[lane]);
+            let alone = self.witness(block, 1 << lane);
+            let other = Outcome {
+                half: alone.halves[lane],
+                flags: (alone.control & 63) as u8,
+                number: 0,
+            };
+            let library = Outcome {
+                half,
+                flags: flags & 63,
+                number: flags >> 6,
+            };
+            if library != other {
+                let case = self.case(block.a[lane], block.b[lane]);
+                println!("{case} => {library} expected {other}");
+            }
+        }
+        let (name, a, [b, .., last]) = (self.name(), block.a[0], block.b);
+        println!("{name}: the block {a:04X} and {b:04X} to {last:04X} differs");
+    }
+}
+
+/// A first operand, 32 times, and 32 second operands.
+struct Block {
+    a: Lanes,
+    b: Lanes,
+}
+
+impl Block {
+    fn of(a: u16, first: u16) -> Block {
+        Block {
+            a: [a; 32],
+            b: std::array::from_fn(|lane| first + lane as u16),
+        }
+    }
+}
+
+/// How far all tasks have come.
+struct Progress {
+    start: Instant,
+    shown: AtomicU64,
+    all: u64,
+    pairs: AtomicU64,
+}
+
+impl Progress {
+    fn of(tasks: &[Task]) -> Progress {
+        Progress {
+            start: Instant::now(),
+            shown: AtomicU64::new(0),
+            all: tasks.iter().map(Task::pairs).sum(),
+            pairs: AtomicU64::new(0),
+        }
+    }
+
+    /// A line, if five seconds have gone since the last.
+    fn show(&self) {
+        let seconds = self.start.elapsed().as_secs_f64();
+        let turn = seconds as u64 / 5;
+        if self.shown.swap(turn, Ordering::Relaxed) == turn {
+            return;
+        }
+        let pairs = self.pairs.load(Ordering::Relaxed);
+        let rate = pairs as f64 / seconds;
+        let left = (self.all - pairs.min(self.all)) as f64 / rate.max(1.0);
+        let percent = 100.0 * pairs as f64 / self.all as f64;
+        eprintln!(
+            "exhaustive: {percent:.2} %, {:.1} million pairs a second, ends in {}",
+            rate / 1e6,
+            shown_time(left)
+        );
+    }
+}
+
+fn shown_time(seconds: f64) -> String {
+    let minutes = (seconds / 60.0).ceil() as u64;
+    format!("{} h {:02} min", minutes / 60, minutes % 60)
+}

@@ -1,0 +1,187 @@
+//! Deliberate faults, put into an outcome of the library: what compares it with the processor is to
+//! find each of them out wherever it changes something.
+
+use crate::case::{DE, IE, OE, PE, UE, ZE};
+use crate::differences::on_a_processor;
+use crate::machine::{Answer, Machine, Step, StepOutcome};
+use crate::second::encoding::{decode, Instruction};
+use crate::second::step::{is_on, unmasked};
+
+/// What is wrong, and what it does to an outcome.
+pub type Fault = (&'static str, fn(&Step, &mut StepOutcome));
+
+pub const FAULTS: [Fault; 24] = [
+    ("a half off by one, where PE is raised", |step, outcome| {
+        if done_with(step, outcome, PE) {
+            change_lane(step, outcome, |half| half ^ 1);
+        }
+    }),
+    ("the sign of a zero", |step, outcome| {
+        change_lane(step, outcome, |half| match half & 0x7FFF {
+            0 => half ^ 0x8000,
+            _ => half,
+        });
+    }),
+    ("another payload in a NaN", |step, outcome| {
+        change_lane(step, outcome, |half| match half & 0x7E00 {
+            0x7E00 => half ^ 1,
+            _ => half,
+        });
+    }),
+    ("overflow to the other magnitude", |step, outcome| {
+        change_lane(step, outcome, |half| match half & 0x7FFF {
+            0x7BFF => half + 1,
+            0x7C00 => half - 1,
+            _ => half,
+        });
+    }),
+    ("subnormal results as zeros", |step, outcome| {
+        change_lane(step, outcome, |half| match half & 0x7C00 {
+            0 => half & 0x8000,
+            _ => half,
+        });
+    }),
+    ("no IE", |step, outcome| drop_flag(step, outcome, IE)),
+    ("no DE", |step, outcome| drop_flag(step, outcome, DE)),
+    ("no ZE", |step, outcome| drop_flag(step, outcome, ZE)),
+    ("no OE", |step, outcome| drop_flag(step, outcome, OE)),
+    ("no UE", |step, outcome| drop_flag(step, outcome, UE)),
+    ("no PE", |step, outcome| drop_flag(step, outcome, PE)),
+    ("flags under embedded rounding", |step, outcome| {
+        if instruction(step).is_some_and(|i| i.embedded_mode.is_some()) {
+            outcome.after.machine.control |= u32::from(PE);
+        }
+    }),
+    ("flags on 8 as the processor has them", |step, outcome| {
+        *outcome = on_a_processor(step, outcome).0;
+    }),
+    ("no flags on 8", |step, outcome| {
+        if outcome.answer.number == 8 {
+            outcome.after.machine.control = step.machine.control;
+        }
+    }),
+    ("8 taken as done", |step, outcome| {
+        if outcome.answer.number == 8 {
+            finish(step, outcome);
+        }
+    }),
+    ("8 after the destination was written", |step, outcome| {
+        if outcome.answer.number == 8 {
+            change_destination(step, outcome);
+        }
+    }),
+    ("8 by a flag left from before", |step, outcome| {
+        let masks = instruction(step).map_or(0, |i| unmasked(&step.machine, &i));
+        if outcome.answer.number == 0 && step.machine.control & u32::from(masks) != 0 {
+            refuse(step, outcome, 8);
+        }
+    }),
+    ("7 taken as done", |step, outcome| {
+        if outcome.answer.number == 7 {
+            finish(step, outcome);
+        }
+    }),
+    ("7 for a lane that is off", |step, outcome| {
+        let off = |i: &Instruction| (0..i.lanes).any(|lane| !is_on(&step.machine, i, lane));
+        let memory = step.code.get(5).is_some_and(|byte| byte >> 6 != 3);
+        if outcome.answer.number == 0 && memory && instruction(step).is_some_and(|i| off(&i)) {
+            refuse(step, outcome, 7);
+        }
+    }),
+    ("lanes that are off as zeros without z", |step, outcome| {
+        for_lanes(step, outcome, |machine, i, lane| {
+            if lane < i.lanes && !i.zeroing && !is_on(machine, i, lane) {
+                machine.set_lane(i.destination, lane, 0);
+            }
+        });
+    }),
+    ("bytes above the length kept", |step, outcome| {
+        for_lanes(step, outcome, |machine, i, lane| {
+            if lane >= i.lanes {
+                machine.set_lane(i.destination, lane, step.machine.lane(i.destination, lane));
+            }
+        });
+    }),
+    ("a reserved encoding carried out", |step, outcome| {
+        if outcome.answer.number == 5 {
+            finish(step, outcome);
+        }
+    }),
+    ("a mask or general register written", |_, outcome| {
+        let machine = &mut outcome.after.machine;
+        match machine.control & 1 {
+            0 => machine.masks[7] ^= 1 << 63,
+            _ => machine.general[4] ^= 1,
+        }
+    }),
+    ("a length one too small", |_, outcome| {
+        if outcome.answer.number == 0 {
+            outcome.answer.length -= 1;
+            outcome.after.machine.pointer = outcome.after.machine.pointer.wrapping_sub(1);
+        }
+    }),
+];
+
+fn instruction(step: &Step) -> Option<Instruction> {
+    decode(&step.code).ok()
+}
+
+/// Whether the step is done and has raised a flag that was not there before.
+fn done_with(step: &Step, outcome: &StepOutcome, flag: u8) -> bool {
+    let new = outcome.after.machine.control & !step.machine.control;
+    outcome.answer.number == 0 && new & u32::from(flag) != 0
+}
+
+fn drop_flag(step: &Step, outcome: &mut StepOutcome, flag: u8) {
+    let new = outcome.after.machine.control & !step.machine.control;
+    outcome.after.machine.control &= !(new & u32::from(flag));
+}
+
+/// Goes through the 32 lanes of the destination of a step that is done.
+fn for_lanes(
+    step: &Step,
+    outcome: &mut StepOutcome,
+    change: impl Fn(&mut Machine, &Instruction, usize),
+) {
+    if outcome.answer.number == 0 {
+        let instruction = instruction(step).expect("it was done");
+        for lane in 0..32 {
+            change(&mut outcome.after.machine, &instruction, lane);
+        }
+    }
+}
+
+/// Changes the halves of the lanes that are on.
+fn change_lane(step: &Step, outcome: &mut StepOutcome, change: impl Fn(u16) -> u16) {
+    for_lanes(step, outcome, |machine, i, lane| {
+        if is_on(machine, i, lane) {
+            machine.set_lane(
+                i.destination,
+                lane,
+                change(machine.lane(i.destination, lane)),
+            );
+        }
+    });
+}
+
+/// Changes the lowest lane of the destination, whatever the answer is.
+fn change_destination(step: &Step, outcome: &mut StepOutcome) {
+    if let Some(i) = instruction(step) {
+        let machine = &mut outcome.after.machine;
+        let half = machine.lane(i.destination, 0);
+        machine.set_lane(i.destination, 0, half ^ 0x4000);
+    }
+}
+
+/// Done, with everything as it stands.
+fn finish(step: &Step, outcome: &mut StepOutcome) {
+    let length = instruction(step).map_or(6, |i| i.length as u32);
+    let pointer = step.machine.pointer.wrapping_add(u64::from(length));
+    outcome.answer = Answer { number: 0, length };
+    outcome.after.machine.pointer = pointer;
+}
+
+fn refuse(step: &Step, outcome: &mut StepOutcome, number: u32) {
+    outcome.after = step.clone();
+    outcome.answer = Answer { number, length: 0 };
+}

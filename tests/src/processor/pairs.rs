@@ -1,0 +1,69 @@
+//! One operation on 32 pairs at a time with every exception masked, for any thread and without
+//! signals.
+
+use crate::case::Operation;
+use std::arch::asm;
+
+pub type Lanes = [u16; 32];
+
+/// What 32 pairs give: their halves, and the control word after.
+#[derive(Clone, Copy, PartialEq, Eq)]
+pub struct Pairs {
+    pub halves: Lanes,
+    pub control: u32,
+}
+
+/// `a op b` in the lanes of `on`; the others give 0. `control` is to mask every exception, and
+/// `Processor::here` or `identify::missing` to have said that the instructions are there.
+pub type OnPairs = fn(&Lanes, &Lanes, on: u32, control: u32) -> Pairs;
+
+/// The host's control word is set aside and brought back, since the library may count on it.
+macro_rules! on_pairs {
+    ($name:ident, $instruction:literal) => {
+        fn $name(a: &Lanes, b: &Lanes, on: u32, control: u32) -> Pairs {
+            let mut halves = [0; 32];
+            let (mut control, mut host) = (control, 0_u32);
+            // Safety: the caller knows that the instructions exist; 64 bytes stand behind each of
+            // the three pointers, 4 behind the others, and what is changed is named.
+            unsafe {
+                asm!(
+                    "stmxcsr [{host}]",
+                    "kmovd k1, {on:e}",
+                    "vmovdqu16 zmm1, [{a}]",
+                    "vmovdqu16 zmm2, [{b}]",
+                    "ldmxcsr [{control}]",
+                    concat!($instruction, " zmm0{{k1}}{{z}}, zmm1, zmm2"),
+                    "stmxcsr [{control}]",
+                    "ldmxcsr [{host}]",
+                    "vmovdqu16 [{halves}], zmm0",
+                    "vzeroupper",
+                    a = in(reg) a,
+                    b = in(reg) b,
+                    on = in(reg) on,
+                    halves = in(reg) &mut halves,
+                    control = in(reg) &mut control,
+                    host = in(reg) &mut host,
+                    out("xmm0") _, out("xmm1") _, out("xmm2") _, out("k1") _,
+                    options(nostack),
+                );
+            }
+            Pairs { halves, control }
+        }
+    };
+}
+
+on_pairs!(add, "vaddph");
+on_pairs!(subtract, "vsubph");
+on_pairs!(multiply, "vmulph");
+on_pairs!(divide, "vdivph");
+
+/// The operations that take two halves.
+pub fn on_pairs(operation: Operation) -> OnPairs {
+    match operation {
+        Operation::Add => add,
+        Operation::Subtract => subtract,
+        Operation::Multiply => multiply,
+        Operation::Divide => divide,
+        Operation::SquareRoot | Operation::FusedMultiplyAdd => panic!("not an operation on pairs"),
+    }
+}
