@@ -26,7 +26,7 @@ extern "C" {
 
 /*
  * Answers. The library has one table of answer numbers. The arithmetic gives only 0 and 9, a step
- * 0 to 8.
+ * 0 to 8, a save 0 to 2, a load 0, 1, 2 and 10.
  *
  *    0  done
  *    1  the vector file has not 2,048 bytes, or the target of a save has not 2,257
@@ -50,6 +50,7 @@ extern "C" {
 #define RIDGECROOK_OUTSIDE_MEMORY 7
 #define RIDGECROOK_EXCEPTION 8
 #define RIDGECROOK_BAD_MODE 9
+#define RIDGECROOK_BAD_SAVED 10
 
 /* Rounding modes, numbered as in bits 13 and 14 of the control word (MXCSR). */
 #define RIDGECROOK_NEAREST 0     /* to the nearest half, ties to even */
@@ -184,6 +185,81 @@ ridgecrook_answer ridgecrook_step(uint8_t *vectors, size_t vectors_length, uint6
                                   const uint64_t general[16], uint32_t *control, uint64_t *pointer,
                                   const uint8_t *code, size_t code_length, const uint8_t *memory,
                                   size_t memory_length);
+
+/*
+ * The saved form of a state, RIDGECROOK_SAVED_SIZE bytes. Its numbers are big-endian; the vector
+ * file stands in it as a step takes it.
+ *
+ *   at    bytes
+ *      0      4  the number of bytes that follow these four: 2,253
+ *      4      1  the version: 1
+ *      5      4  the control word
+ *      9      8  the pointer
+ *     17    128  the general registers, 8 bytes each, in rising order
+ *    145     64  the masks k0 to k7, 8 bytes each, in rising order
+ *    209  2,048  the vector file
+ */
+#define RIDGECROOK_SAVED_SIZE 2257
+
+/*
+ * Writes the saved form of a state.
+ *
+ *   vectors, vectors_length  The vector file; only read. A length other than
+ *                            RIDGECROOK_VECTORS_SIZE is refused.
+ *   masks, general           The registers; only read.
+ *   control, pointer         The control word and the pointer. A control word with a bit above 15
+ *                            is refused.
+ *   target, target_length    Where the saved form is written. A length other than
+ *                            RIDGECROOK_SAVED_SIZE is refused, a greater one too.
+ *
+ * The answer is the first of these that applies:
+ *
+ *   RIDGECROOK_BAD_SIZE     vectors_length is not RIDGECROOK_VECTORS_SIZE
+ *   RIDGECROOK_BAD_SIZE     target_length is not RIDGECROOK_SAVED_SIZE
+ *   RIDGECROOK_BAD_CONTROL  the control word has a bit above 15
+ *   RIDGECROOK_DONE         every byte of the target is written
+ *
+ * A refusal leaves the target as it was. What is only read is never changed.
+ *
+ * The pointers. `target`, at its whole length, may overlap nothing else that is lent to the call;
+ * `vectors`, `masks` and `general` are only read and may overlap one another. No pointer may be
+ * null. `masks` points to RIDGECROOK_MASKS numbers and `general` to RIDGECROOK_GENERAL, aligned as
+ * uint64_t is; bytes need no alignment.
+ */
+uint32_t ridgecrook_save(const uint8_t *vectors, size_t vectors_length, const uint64_t masks[8],
+                         const uint64_t general[16], uint32_t control, uint64_t pointer,
+                         uint8_t *target, size_t target_length);
+
+/*
+ * Reads a state from its saved form. Loading what was saved gives the same state, and saving what
+ * was loaded gives the same bytes.
+ *
+ *   saved, saved_length      The saved form and nothing behind it; only read.
+ *   vectors, vectors_length  Where the vector file goes. A length other than
+ *                            RIDGECROOK_VECTORS_SIZE is refused.
+ *   masks, general           Where the registers go.
+ *   control, pointer         Where the control word and the pointer go. What they hold before the
+ *                            call is not looked at.
+ *
+ * The answer is the first of these that applies:
+ *
+ *   RIDGECROOK_BAD_SIZE     vectors_length is not RIDGECROOK_VECTORS_SIZE
+ *   RIDGECROOK_BAD_SAVED    saved_length is not RIDGECROOK_SAVED_SIZE, the length field is not
+ *                           2,253, or the version is not 1
+ *   RIDGECROOK_BAD_CONTROL  the saved control word has a bit above 15
+ *   RIDGECROOK_DONE         vectors, masks, general, *control and *pointer are all written
+ *
+ * A refusal leaves all of these as they were: the state is the one that was given.
+ *
+ * The pointers. `vectors`, `masks`, `general`, `control` and `pointer` are written: what one of
+ * them points to, at its whole length, may overlap nothing else that is lent to the call. `saved`
+ * may be null where saved_length is 0, which is refused; no other pointer may be null. `masks`
+ * points to RIDGECROOK_MASKS numbers and `general` to RIDGECROOK_GENERAL, aligned as uint64_t is;
+ * bytes need no alignment.
+ */
+uint32_t ridgecrook_load(const uint8_t *saved, size_t saved_length, uint8_t *vectors,
+                         size_t vectors_length, uint64_t masks[8], uint64_t general[16],
+                         uint32_t *control, uint64_t *pointer);
 
 #ifdef __cplusplus
 }

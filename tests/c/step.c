@@ -2,36 +2,14 @@
  * Steps as a C engineer calls them: the header, the archive, the rows of the papers, null pointers
  * with length 0, and the ends of everything that is lent.
  */
-#define _DEFAULT_SOURCE /* for MAP_ANONYMOUS */
+#include "machine.h" /* first, since it chooses what the system's headers declare */
+
 #include "check.h"
-#include "ridgecrook.h"
 
 #include <stddef.h>
 #include <stdint.h>
-#include <stdio.h>
 #include <stdlib.h>
 #include <string.h>
-#include <sys/mman.h>
-
-typedef struct {
-    uint8_t vectors[RIDGECROOK_VECTORS_SIZE];
-    uint64_t masks[RIDGECROOK_MASKS];
-    uint64_t general[RIDGECROOK_GENERAL];
-    uint32_t control;
-    uint64_t pointer;
-} machine;
-
-static void blank(machine *m) {
-    memset(m, 0, sizeof *m);
-    m->control = RIDGECROOK_CONTROL_RESET;
-}
-
-static int same(const machine *a, const machine *b) {
-    return memcmp(a->vectors, b->vectors, sizeof a->vectors) == 0 &&
-           memcmp(a->masks, b->masks, sizeof a->masks) == 0 &&
-           memcmp(a->general, b->general, sizeof a->general) == 0 && a->control == b->control &&
-           a->pointer == b->pointer;
-}
 
 static void set(machine *m, int reg, int lane, uint16_t half) {
     m->vectors[RIDGECROOK_REGISTER_SIZE * reg + 2 * lane] = half & 0xFF;
@@ -191,18 +169,6 @@ static void check_null(void) {
     m.masks[1] = 1;
     check(is(step(&m, ADD_MEMORY, 6, NULL, 0), RIDGECROOK_OUTSIDE_MEMORY, 0), "one lane on");
     check(is(step(&m, ADD_BROADCAST, 7, NULL, 0), RIDGECROOK_OUTSIDE_MEMORY, 0), "broadcast");
-}
-
-enum { PAGE = 4096 };
-
-/* The end of a page behind which nothing may be read or written. */
-static uint8_t *page_end(void) {
-    uint8_t *pages = mmap(NULL, 3 * PAGE, PROT_NONE, MAP_PRIVATE | MAP_ANONYMOUS, -1, 0);
-    if (pages == MAP_FAILED || mprotect(pages + PAGE, PAGE, PROT_READ | PROT_WRITE) != 0) {
-        perror("mmap");
-        exit(2);
-    }
-    return pages + 2 * PAGE;
 }
 
 /*

@@ -4,6 +4,7 @@ use crate::case::{Case, Outcome};
 use crate::machine::{Step, StepOutcome};
 use crate::second;
 use crate::step_line::shown_outcome;
+use crate::transfer::{Transfer, TransferOutcome};
 use std::fmt::Display;
 use std::io::Write;
 
@@ -57,6 +58,18 @@ impl Compared for Step {
 
     fn shown(&self, outcome: &StepOutcome) -> String {
         shown_outcome(self, outcome)
+    }
+}
+
+impl Compared for Transfer {
+    type Outcome = TransferOutcome;
+
+    fn expected(&self) -> TransferOutcome {
+        second::transfer(self)
+    }
+
+    fn shown(&self, outcome: &TransferOutcome) -> String {
+        outcome.shown(self)
     }
 }
 

@@ -3,6 +3,7 @@
 
 pub mod assemble;
 pub mod case;
+pub mod command_input;
 pub mod compare;
 pub mod corners;
 pub mod coverage;
@@ -11,9 +12,11 @@ pub mod faults;
 pub mod library;
 pub mod machine;
 pub mod processor;
+pub mod program;
 pub mod random;
 pub mod random_step;
 pub mod recorded;
 pub mod second;
 pub mod step_line;
+pub mod transfer;
 pub mod witness;

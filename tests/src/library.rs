@@ -2,6 +2,7 @@
 
 use crate::case::{Arithmetic, Case, Outcome};
 use crate::machine::{Answer, Machine, Step, StepOutcome};
+use crate::transfer::{Direction, Transfer, TransferOutcome};
 
 extern "C" {
     fn ridgecrook_add(a: u16, b: u16, mode: u32, underflow_unmasked: u32) -> Outcome;
@@ -28,6 +29,26 @@ extern "C" {
         memory: *const u8,
         memory_length: usize,
     ) -> Answer;
+    fn ridgecrook_save(
+        vectors: *const u8,
+        vectors_length: usize,
+        masks: *const u64,
+        general: *const u64,
+        control: u32,
+        pointer: u64,
+        target: *mut u8,
+        target_length: usize,
+    ) -> u32;
+    fn ridgecrook_load(
+        saved: *const u8,
+        saved_length: usize,
+        vectors: *mut u8,
+        vectors_length: usize,
+        masks: *mut u64,
+        general: *mut u64,
+        control: *mut u32,
+        pointer: *mut u64,
+    ) -> u32;
 }
 
 // Safety of the calls of the arithmetic: the functions take numbers alone, accept every number and
@@ -104,4 +125,49 @@ pub fn step_outcome(before: &Step) -> StepOutcome {
     let mut after = before.clone();
     let answer = step(&mut after.machine, &after.code, &after.memory);
     StepOutcome { answer, after }
+}
+
+/// A save. What is only read is lent by pointers that may write, so that a library that does is
+/// found out.
+pub fn save(machine: &mut Machine, target: &mut [u8]) -> u32 {
+    // Safety: as in `step`.
+    unsafe {
+        ridgecrook_save(
+            machine.vectors.as_mut_ptr().cast_const(),
+            machine.vectors.len(),
+            machine.masks.as_mut_ptr().cast_const(),
+            machine.general.as_mut_ptr().cast_const(),
+            machine.control,
+            machine.pointer,
+            target.as_mut_ptr(),
+            target.len(),
+        )
+    }
+}
+
+/// A load; the saved form is lent in the same way.
+pub fn load(saved: &mut [u8], machine: &mut Machine) -> u32 {
+    // Safety: as in `step`.
+    unsafe {
+        ridgecrook_load(
+            saved.as_mut_ptr().cast_const(),
+            saved.len(),
+            machine.vectors.as_mut_ptr(),
+            machine.vectors.len(),
+            machine.masks.as_mut_ptr(),
+            machine.general.as_mut_ptr(),
+            &mut machine.control,
+            &mut machine.pointer,
+        )
+    }
+}
+
+/// What the library answers to a save or a load and leaves of it.
+pub fn transfer_outcome(before: &Transfer) -> TransferOutcome {
+    let mut after = before.clone();
+    let number = match after.direction {
+        Direction::Save => save(&mut after.machine, &mut after.bytes),
+        Direction::Load => load(&mut after.bytes, &mut after.machine),
+    };
+    TransferOutcome { number, after }
 }

@@ -2,6 +2,7 @@
 //! most operands are chosen near one another or near such a border.
 
 use crate::case::{Case, Operation};
+use crate::machine::{Machine, VECTORS_SIZE};
 use crate::second;
 
 /// The generator splitmix64 (Steele, Lea, Flood): one 64-bit state, any seed.
@@ -30,6 +31,21 @@ impl Random {
 
     pub fn half(&mut self) -> u16 {
         self.bits() as u16
+    }
+
+    pub fn bytes(&mut self, count: usize) -> Vec<u8> {
+        (0..count).map(|_| self.bits() as u8).collect()
+    }
+
+    /// Any bits everywhere, but none above bit 15 of the control word.
+    pub fn machine(&mut self) -> Machine {
+        Machine {
+            vectors: self.bytes(VECTORS_SIZE),
+            masks: [0; 8].map(|_| self.bits()),
+            general: [0; 16].map(|_| self.bits()),
+            control: self.bits() as u32 & 0xFFFF,
+            pointer: self.bits(),
+        }
     }
 
     /// A half of either sign with the given exponent bits, or the nearest finite ones.

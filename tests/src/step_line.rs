@@ -28,14 +28,18 @@ impl fmt::Display for Step {
 /// The part of a line behind `=>`.
 pub fn shown_outcome(before: &Step, outcome: &StepOutcome) -> String {
     let answer = outcome.answer;
-    let mut text = format!("{} {}", answer.number, answer.length);
-    let (old, new) = (fields(before), fields(&outcome.after));
-    for ((name, value), (_, old)) in new.iter().zip(&old) {
-        if value != old {
-            text += &format!(" {name}={value}");
-        }
-    }
-    text
+    let changes = shown_changes(before, &outcome.after);
+    format!("{} {}{changes}", answer.number, answer.length)
+}
+
+/// Each field that changed, with a space before it.
+pub fn shown_changes(before: &Step, after: &Step) -> String {
+    let (old, new) = (fields(before), fields(after));
+    let both = new.iter().zip(&old);
+    let changed = both.filter(|((_, value), (_, old))| value != old);
+    changed
+        .map(|((name, value), _)| format!(" {name}={value}"))
+        .collect()
 }
 
 /// Every field by its name, in the order in which they are printed.

@@ -1,4 +1,4 @@
-//! Runs one printed line again, of the arithmetic or of a step:
+//! Runs one printed line again, of the arithmetic, of a step, of a save or of a load:
 //! `cargo run --release --bin replay -- add m1 u0 3C00 BC00`
 //! `cargo run --release --bin replay -- step code=62F5744858C2 z1=3C00`
 //! A step is also shown as this machine's processor does it, where that can be.
@@ -8,19 +8,22 @@ use ridgecrook_tests::compare::Compared;
 use ridgecrook_tests::library;
 use ridgecrook_tests::machine::Step;
 use ridgecrook_tests::processor::{has_extended_prefix, Processor};
+use ridgecrook_tests::transfer::Transfer;
 use ridgecrook_tests::witness::runnable;
 use std::process::exit;
 use std::str::FromStr;
 
 fn main() {
     let line = std::env::args().skip(1).collect::<Vec<_>>().join(" ");
-    let agrees = if line.starts_with("step") {
-        let step = read::<Step>(&line);
-        let agrees = replay(&step, library::step_outcome);
-        println!("processor       {}", by_processor(&step));
-        agrees
-    } else {
-        replay(&read::<Case>(&line), library::answer)
+    let agrees = match line.split_whitespace().next() {
+        Some("step") => {
+            let step = read::<Step>(&line);
+            let agrees = replay(&step, library::step_outcome);
+            println!("processor       {}", by_processor(&step));
+            agrees
+        }
+        Some("save" | "load") => replay(&read::<Transfer>(&line), library::transfer_outcome),
+        _ => replay(&read::<Case>(&line), library::answer),
     };
     if !agrees {
         exit(1);

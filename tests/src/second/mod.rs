@@ -3,19 +3,23 @@
 //! library.
 //!
 //! `operations` has rules 1 to 3 and the exact values, `rounding` has rule 4; `encoding` has the
-//! bytes of an instruction, `step` all else of a step.
+//! bytes of an instruction, `step` all else of a step; `saved` has the saved form, `command` what
+//! the command prints.
 
+pub mod command;
 pub mod encoding;
 mod exact;
 mod half;
 mod operations;
 mod rounding;
+pub mod saved;
 pub mod step;
 
 use crate::case::{Case, Outcome};
 use operations::Stage;
 use rounding::Mode;
 
+pub use saved::transfer;
 pub use step::step;
 
 /// What document 01 answers to a case.

@@ -1,0 +1,239 @@
+/*
+ * Steps, saves and loads on random bytes and states, with every lent buffer against the end or the
+ * beginning of pages that may be touched: one byte beyond, and the program stops. After each call
+ * it is checked that the answer is one that the header names and that a refusal left all as it was;
+ * what a step is to compute, other tests know.
+ *
+ *   robust [STEPS [SEED]]     1,000,000 steps if nothing is said
+ */
+#include "machine.h" /* first, since it chooses what the system's headers declare */
+
+#include "check.h"
+
+#include <inttypes.h>
+
+enum { CODE_MOST = 24, MEMORY_MOST = 2 * PAGE };
+
+static uint64_t state;
+
+/* The generator splitmix64 (Steele, Lea, Flood). */
+static uint64_t bits(void) {
+    uint64_t z = state += UINT64_C(0x9E3779B97F4A7C15);
+    z = (z ^ z >> 30) * UINT64_C(0xBF58476D1CE4E5B9);
+    z = (z ^ z >> 27) * UINT64_C(0x94D049BB133111EB);
+    return z ^ z >> 31;
+}
+
+static size_t below(size_t count) {
+    return (size_t)(bits() % count);
+}
+
+static void fill(void *at, size_t size) {
+    uint8_t *bytes = at;
+    for (; size >= 8; size -= 8, bytes += 8) {
+        uint64_t more = bits();
+        memcpy(bytes, &more, 8);
+    }
+    for (; size > 0; size--) {
+        *bytes++ = (uint8_t)bits();
+    }
+}
+
+/* Pages, and where in them a buffer of a size stands: at their end, or at their beginning. */
+typedef struct {
+    uint8_t *end;
+    size_t size;
+} pages;
+
+static pages new_pages(size_t count) {
+    pages made = {pages_end(count), count * PAGE};
+    return made;
+}
+
+static uint8_t *placed(pages in, size_t size) {
+    return bits() % 4 == 0 ? in.end - in.size : in.end - size;
+}
+
+/* All that a call is lent. */
+typedef struct {
+    uint8_t *vectors, *code, *memory, *saved;
+    uint64_t *masks, *general, *pointer;
+    uint32_t *control;
+    size_t vectors_length, code_length, memory_length, saved_length;
+} lent;
+
+/* The size that is right, but for one call in 32. */
+static size_t mostly(size_t right) {
+    return bits() % 32 != 0 ? right : below(PAGE);
+}
+
+static lent place(const pages in[8]) {
+    lent all;
+    all.vectors_length = mostly(RIDGECROOK_VECTORS_SIZE);
+    all.saved_length = mostly(RIDGECROOK_SAVED_SIZE);
+    all.code_length = bits() % 4 != 0 ? 12 : below(CODE_MOST + 1);
+    all.memory_length = below(MEMORY_MOST + 1);
+    all.vectors = placed(in[0], all.vectors_length);
+    all.code = placed(in[1], all.code_length);
+    all.memory = placed(in[2], all.memory_length);
+    all.saved = placed(in[3], all.saved_length);
+    all.masks = (uint64_t *)(void *)placed(in[4], 8 * sizeof(uint64_t));
+    all.general = (uint64_t *)(void *)placed(in[5], 16 * sizeof(uint64_t));
+    all.pointer = (uint64_t *)(void *)placed(in[6], sizeof(uint64_t));
+    all.control = (uint32_t *)(void *)placed(in[7], sizeof(uint32_t));
+    return all;
+}
+
+/* Three in four begin like an instruction of the list, with one bit in a hundred or so wrong. */
+static void fill_code(uint8_t *code, size_t length) {
+    static const uint8_t rows[8][3] = {{0xF5, 0x74, 0x58}, {0xF5, 0x74, 0x59}, {0xF5, 0x74, 0x5C},
+                                       {0xF5, 0x74, 0x5E}, {0xF5, 0x7C, 0x51}, {0xF6, 0x75, 0x98},
+                                       {0xF6, 0x75, 0xA8}, {0xF6, 0x75, 0xB8}};
+    fill(code, length);
+    if (length < 6 || bits() % 4 == 0) {
+        return;
+    }
+    const uint8_t *row = rows[below(8)];
+    code[0] = 0x62;
+    code[1] = (uint8_t)((code[1] & 0xF0) | (row[0] & 0x0F));
+    code[2] = (uint8_t)((code[2] & (row[2] == 0x51 ? 0 : 0x78)) | row[1]);
+    code[3] = (uint8_t)((code[3] & 0x7F) | (row[2] == 0x51 ? 8 : 0));
+    code[4] = row[2];
+    if (bits() % 8 == 0) {
+        code[below(6)] ^= (uint8_t)(1 << below(8));
+    }
+}
+
+/* An address near the memory half of the time. */
+static uint64_t address(size_t memory_length) {
+    return bits() % 2 == 0 ? bits() : below(memory_length + 1) - below(200);
+}
+
+static void fill_state(const lent *all) {
+    fill(all->vectors, all->vectors_length);
+    for (size_t i = 0; i < RIDGECROOK_MASKS; i++) {
+        all->masks[i] = bits() & bits();
+    }
+    for (size_t i = 0; i < RIDGECROOK_GENERAL; i++) {
+        all->general[i] = address(all->memory_length);
+    }
+    *all->pointer = address(all->memory_length);
+    *all->control = (uint32_t)(bits() & 0xFFFF) | (bits() % 4 != 0 ? 0x1F80 : 0);
+    if (bits() % 64 == 0) {
+        *all->control |= 1u << (16 + below(16));
+    }
+}
+
+/* A copy of the state, as much of the vector file as was lent. */
+typedef struct {
+    uint8_t vectors[PAGE];
+    uint64_t masks[8], general[16], pointer;
+    uint32_t control;
+} copy;
+
+static void keep(copy *kept, const lent *all) {
+    memcpy(kept->vectors, all->vectors, all->vectors_length);
+    memcpy(kept->masks, all->masks, sizeof kept->masks);
+    memcpy(kept->general, all->general, sizeof kept->general);
+    kept->pointer = *all->pointer;
+    kept->control = *all->control;
+}
+
+static int registers_stay(const copy *kept, const lent *all) {
+    return memcmp(kept->masks, all->masks, sizeof kept->masks) == 0 &&
+           memcmp(kept->general, all->general, sizeof kept->general) == 0;
+}
+
+static int vectors_stay(const copy *kept, const lent *all) {
+    return memcmp(kept->vectors, all->vectors, all->vectors_length) == 0;
+}
+
+static int all_stays(const copy *kept, const lent *all) {
+    return registers_stay(kept, all) && vectors_stay(kept, all) &&
+           kept->pointer == *all->pointer && kept->control == *all->control;
+}
+
+/* Whether a step answered and left what the header allows; counts the answers. */
+static int step_is_right(const lent *all, copy *kept, uint64_t answers[11]) {
+    keep(kept, all);
+    ridgecrook_answer answer = ridgecrook_step(
+        all->vectors, all->vectors_length, all->masks, all->general, all->control, all->pointer,
+        all->code, all->code_length, all->memory, all->memory_length);
+    if (answer.number > RIDGECROOK_EXCEPTION || answer.number == RIDGECROOK_TOO_LONG) {
+        return 0;
+    }
+    answers[answer.number]++;
+    int flags_added = (*all->control & ~63u) == (kept->control & ~63u) &&
+                      (*all->control & kept->control) == kept->control;
+    if (answer.number == RIDGECROOK_DONE) {
+        return answer.length >= 6 && answer.length <= 11 && answer.length <= all->code_length &&
+               *all->pointer == kept->pointer + answer.length && registers_stay(kept, all) &&
+               flags_added;
+    }
+    if (answer.number == RIDGECROOK_EXCEPTION) {
+        kept->control = *all->control;
+    }
+    return answer.length == 0 && flags_added && all_stays(kept, all);
+}
+
+/* A save of the state, and a load of what stands in the target then, damaged or not. */
+static int transfer_is_right(const lent *all, copy *kept) {
+    keep(kept, all);
+    uint32_t saved = ridgecrook_save(all->vectors, all->vectors_length, all->masks, all->general,
+                                     *all->control, *all->pointer, all->saved, all->saved_length);
+    int right = saved <= RIDGECROOK_BAD_CONTROL && all_stays(kept, all);
+    if (saved == RIDGECROOK_DONE && bits() % 2 == 0) {
+        all->saved[below(12)] ^= (uint8_t)(1 << below(8));
+    } else if (saved == RIDGECROOK_DONE) {
+        fill_state(all); /* and what was saved is loaded over it */
+        uint32_t loaded = ridgecrook_load(all->saved, all->saved_length, all->vectors,
+                                          all->vectors_length, all->masks, all->general,
+                                          all->control, all->pointer);
+        return right && loaded == RIDGECROOK_DONE && all_stays(kept, all);
+    }
+    uint32_t loaded = ridgecrook_load(all->saved, all->saved_length, all->vectors,
+                                      all->vectors_length, all->masks, all->general, all->control,
+                                      all->pointer);
+    int known = loaded <= RIDGECROOK_BAD_CONTROL || loaded == RIDGECROOK_BAD_SAVED;
+    return right && known && (loaded == RIDGECROOK_DONE || all_stays(kept, all));
+}
+
+/* How many calls went wrong; the first of them are printed by their number. */
+static uint64_t run(uint64_t steps, uint64_t answers[11]) {
+    static const size_t counts[8] = {1, 1, MEMORY_MOST / PAGE, 1, 1, 1, 1, 1};
+    static copy kept;
+    pages in[8];
+    uint64_t wrong = 0;
+    for (size_t i = 0; i < 8; i++) {
+        in[i] = new_pages(counts[i]);
+    }
+    fill(in[2].end - in[2].size, in[2].size);
+    for (uint64_t step = 0; step < steps; step++) {
+        lent all = place(in);
+        fill_code(all.code, all.code_length);
+        fill_state(&all);
+        int right = step_is_right(&all, &kept, answers);
+        if (step % 16 == 0) {
+            right &= transfer_is_right(&all, &kept);
+        }
+        if (!right && wrong++ < 10) {
+            printf("failed: step %" PRIu64 "\n", step);
+        }
+    }
+    return wrong;
+}
+
+int main(int count, char **arguments) {
+    uint64_t steps = count > 1 ? strtoull(arguments[1], NULL, 10) : 1000000;
+    state = count > 2 ? strtoull(arguments[2], NULL, 10) : 20240304;
+    uint64_t answers[11] = {0};
+    printf("%" PRIu64 " steps, seed %" PRIu64 "\n", steps, state);
+    uint64_t wrong = run(steps, answers);
+    printf("answers 0 to 8:");
+    for (size_t i = 0; i <= 8; i++) {
+        printf(" %" PRIu64, answers[i]);
+    }
+    printf("\n");
+    check(wrong == 0 && answers[0] > 0, "every call answered and left what the header says");
+    return finish();
+}

@@ -1,0 +1,76 @@
+//! The command as a process of its own, fed by a pipe.
+
+use std::fs;
+use std::io::Write;
+use std::path::{Path, PathBuf};
+use std::process::{Child, Command, Stdio};
+use std::thread;
+use std::time::Duration;
+
+pub struct Program {
+    path: PathBuf,
+}
+
+impl Program {
+    /// The file that `RIDGECROOK_COMMAND` names, else what `rt check run` writes below the project
+    /// root. A missing one is a failure, since nothing would be tested.
+    pub fn found() -> Program {
+        let root = Path::new(env!("CARGO_MANIFEST_DIR")).parent();
+        let root = root.expect("the tests stand in a folder of the project");
+        let path = match std::env::var_os("RIDGECROOK_COMMAND") {
+            Some(path) => PathBuf::from(path),
+            None => root.join("target/bin/run"),
+        };
+        let is_there = path.is_file();
+        let (path_shown, root) = (path.display(), root.display());
+        assert!(
+            is_there,
+            "the command {path_shown} is missing: run `rt check run` in {root}"
+        );
+        Program { path }
+    }
+
+    fn start(&self) -> Child {
+        let mut command = Command::new(&self.path);
+        command.stdin(Stdio::piped()).stdout(Stdio::piped());
+        let started = command.spawn();
+        started.unwrap_or_else(|error| panic!("{}: {error}", self.path.display()))
+    }
+
+    /// What the program prints when it is given these pieces, one after another with a short pause
+    /// between them. It may end before it has read all.
+    pub fn output_of_pieces(&self, pieces: &[&[u8]]) -> Vec<u8> {
+        let mut child = self.start();
+        let mut input = child.stdin.take().expect("standard input is a pipe");
+        for (number, piece) in pieces.iter().enumerate() {
+            if number > 0 {
+                thread::sleep(Duration::from_millis(2));
+            }
+            if input.write_all(piece).is_err() {
+                break;
+            }
+        }
+        drop(input);
+        self.finish(child)
+    }
+
+    pub fn output(&self, input: &[u8]) -> Vec<u8> {
+        self.output_of_pieces(&[input])
+    }
+
+    /// The same with an open file as standard input.
+    pub fn output_of_file(&self, file: &Path) -> Vec<u8> {
+        let input = fs::File::open(file).expect("the input can be read");
+        let mut command = Command::new(&self.path);
+        let output = command.stdin(input).stdout(Stdio::piped()).spawn();
+        self.finish(output.expect("the command starts"))
+    }
+
+    /// What is printed, of a program that ends by itself and not by a signal.
+    fn finish(&self, child: Child) -> Vec<u8> {
+        let output = child.wait_with_output().expect("the command ends");
+        let status = output.status;
+        assert!(status.code().is_some(), "the command ended by {status}");
+        output.stdout
+    }
+}

@@ -1,0 +1,362 @@
+//! The command as a process, its standard output held against the second program's.
+//!
+//! `RIDGECROOK_COMMAND` names the program (otherwise `target/bin/run`), `RIDGECROOK_SEED` sets the
+//! seed, `RIDGECROOK_INPUTS` the number of random inputs. An input whose output differs is kept as
+//! a file, which the message names: `target/bin/run < FILE` runs it again, `case show FILE` shows
+//! it.
+
+use ridgecrook_tests::assemble::Encoding;
+use ridgecrook_tests::command_input::{ending, input, Inputs, CODE_AT};
+use ridgecrook_tests::compare::{log, setting};
+use ridgecrook_tests::machine::Machine;
+use ridgecrook_tests::program::Program;
+use ridgecrook_tests::random::Random;
+use ridgecrook_tests::second::command::{output, CODE_LIMIT, MEMORY_LIMIT};
+use ridgecrook_tests::second::encoding::LIST;
+use std::fs;
+use std::path::{Path, PathBuf};
+use std::thread;
+
+const SEED: u64 = 20_240_303;
+
+/// The whole case of document 01.
+const ADD: [u8; 6] = [0x62, 0xF5, 0x74, 0x48, 0x58, 0xC2];
+/// zmm0{k1} = zmm1 + what stands at RAX.
+const ADD_MEMORY: [u8; 6] = [0x62, 0xF5, 0x74, 0x49, 0x58, 0x00];
+const DIVIDE: [u8; 6] = [0x62, 0xF5, 0x74, 0x48, 0x5E, 0xC2];
+
+const BAD: &str = "bad input\n";
+
+/// The command, and what its inputs are called.
+struct Command {
+    program: Program,
+    name: &'static str,
+}
+
+impl Command {
+    fn of(name: &'static str) -> Command {
+        Command {
+            program: Program::found(),
+            name,
+        }
+    }
+
+    /// A file below the folder that cargo keeps for tests.
+    fn file(&self, number: usize) -> PathBuf {
+        let folder = Path::new(env!("CARGO_TARGET_TMPDIR"));
+        folder.join(format!("{}-{number}.bin", self.name.replace(' ', "-")))
+    }
+
+    /// Whether the program prints what the second program does, which is handed back.
+    fn agrees(&self, number: usize, input: &[u8]) -> String {
+        let expected = output(input);
+        let printed = self.program.output(input);
+        if printed != expected.as_bytes() {
+            let file = self.file(number);
+            fs::write(&file, input).expect("an input can be kept");
+            let (file, printed) = (file.display(), String::from_utf8_lossy(&printed));
+            panic!("{file}: printed\n{printed}expected\n{expected}");
+        }
+        expected
+    }
+
+    /// An input whose output is known.
+    fn prints(&self, number: usize, input: &[u8], known: &str) {
+        assert_eq!(self.agrees(number, input), known, "the second program");
+    }
+}
+
+/// A machine that has 1 in each lane of zmm1 and so much in each of zmm2.
+fn one_and(half: u16) -> Machine {
+    let mut machine = Machine::blank();
+    for lane in 0..32 {
+        machine.set_lane(1, lane, 0x3C00);
+        machine.set_lane(2, lane, half);
+    }
+    machine
+}
+
+#[test]
+fn the_whole_case() {
+    let command = Command::of("the whole case");
+    let bytes = input(&Machine::blank(), &ADD, &[]);
+    assert_eq!(bytes.len(), 2265);
+    command.prints(0, &bytes, "0 0 00001f80\nstop 6\n");
+}
+
+/// Where it ends, from a blank state: code, memory, output.
+#[test]
+fn ends_and_refusals() {
+    let command = Command::of("ends and refusals");
+    let twice = [ADD, ADD].concat();
+    let stops = [&ADD[..], &[0x90], &ADD].concat();
+    let cut = "0 0 00001f80\n6 3 00001f80\nstop 6\n";
+    let once = "0 0 00001f80\nstop 6\n";
+    let rows: [(&[u8], &[u8], &str); 10] = [
+        (&[], &[], "stop 0\n"),
+        (&[], &[1, 2, 3], "stop 0\n"),
+        (&twice, &[], "0 0 00001f80\n6 0 00001f80\nstop 12\n"),
+        // A refusal in the middle: what follows is not run.
+        (&stops, &[], "0 0 00001f80\n6 4 00001f80\nstop 6\n"),
+        // Bytes that are cut, and bytes that are no instruction.
+        (&twice[..11], &[], cut),
+        (&twice[..7], &[], cut),
+        (&[0x62], &[], "0 3 00001f80\nstop 0\n"),
+        (&[0], &[], "0 4 00001f80\nstop 0\n"),
+        // With mask 0 nothing is read.
+        (&ADD_MEMORY, &[], once),
+        (&ADD_MEMORY, &[0], once),
+    ];
+    for (number, (code, memory, known)) in rows.into_iter().enumerate() {
+        command.prints(number, &input(&Machine::blank(), code, memory), known);
+    }
+}
+
+/// The control word is printed as it stands after the step, also after 8.
+#[test]
+fn flags_are_printed() {
+    let command = Command::of("flags are printed");
+    // 1/3 is inexact, and the flag stays.
+    let code = [ADD, DIVIDE, ADD].concat();
+    let known = "0 0 00001f80\n6 0 00001fa0\n12 0 00001fa0\nstop 18\n";
+    command.prints(0, &input(&one_and(0x4200), &code, &[]), known);
+    // 1/0 with ZE unmasked, in mode 3 with FZ.
+    let mut unmasked = one_and(0);
+    unmasked.control = 0xFD80;
+    let known = "0 0 0000fd80\n6 8 0000fd84\nstop 6\n";
+    command.prints(1, &input(&unmasked, &code, &[]), known);
+    // Flags from before are printed too, and cause nothing.
+    unmasked.control = 0x003F;
+    command.prints(2, &input(&unmasked, &ADD, &[]), "0 0 0000003f\nstop 6\n");
+}
+
+/// The pointer of the saved state is not the offset, and wraps.
+#[test]
+fn a_pointer_of_its_own() {
+    let command = Command::of("a pointer of its own");
+    // zmm0{k1} = zmm1 + what stands 0 after the next instruction
+    let relative = [0x62, 0xF5, 0x74, 0x49, 0x58, 0x05, 0, 0, 0, 0];
+    let code = [relative, relative].concat();
+    let mut machine = one_and(0);
+    machine.masks[1] = 1;
+    machine.control = 0x1E80;
+    // A subnormal, unmasked, at address 0 and then at 10.
+    let memory = [0x01, 0, 0, 0, 0, 0, 0, 0, 0, 0, 0x01, 0];
+    for (number, (pointer, known)) in [
+        (-10, "0 8 00001ea2\nstop 0\n"),
+        (-8, "0 0 00001e80\n10 7 00001e80\nstop 10\n"),
+        (0, "0 8 00001ea2\nstop 0\n"),
+        (1, "0 7 00001e80\nstop 0\n"),
+        (-20, "0 7 00001e80\nstop 0\n"),
+        (1000, "0 7 00001e80\nstop 0\n"),
+    ]
+    .into_iter()
+    .enumerate()
+    {
+        machine.pointer = pointer as i64 as u64;
+        command.prints(number, &input(&machine, &code, &memory), known);
+    }
+}
+
+/// 4,096 bytes of code run; 4,097 are refused, as is every larger length.
+#[test]
+fn lengths_of_code() {
+    let command = Command::of("lengths of code");
+    let machine = one_and(0x4200);
+    let mut code = ADD.repeat(682);
+    code.extend([0x62; 4]);
+    let text = output(&input(&machine, &code, &[]));
+    assert_eq!(text.lines().count(), 684, "682 sums, a cut one, stop");
+    assert!(text.ends_with("4092 3 00001f80\nstop 4092\n"));
+    command.agrees(0, &input(&machine, &code, &[]));
+    // To the very end: the displacement makes an instruction of 10 bytes.
+    let far = Encoding::memory(&LIST[0], 0, 5, &[0, 0, 0, 0]).bytes();
+    assert_eq!(far.len(), 10);
+    let whole = [ADD.repeat(681), far].concat();
+    let largest = vec![0; MEMORY_LIMIT];
+    let bytes = input(&machine, &whole, &largest);
+    assert!(command
+        .agrees(1, &bytes)
+        .ends_with("0 00001f80\nstop 4096\n"));
+    for (number, length) in [4097, 4098, 8192, 0x8000, 0xFFFF].into_iter().enumerate() {
+        let code = vec![0x62; length];
+        command.prints(2 + number, &input(&machine, &code, &[]), BAD);
+        let short = input(&machine, &code, &[]);
+        let kept = short.len() - (length - CODE_LIMIT);
+        command.prints(2 + number, &short[..kept], BAD);
+    }
+}
+
+/// 32,768 bytes of memory are read to the last; one more is refused, and so is any number more.
+#[test]
+fn lengths_of_memory() {
+    let command = Command::of("lengths of memory");
+    let mut machine = one_and(0);
+    machine.masks[1] = 1;
+    machine.control = 0x1E80;
+    machine.general[0] = MEMORY_LIMIT as u64 - 2;
+    let mut memory = vec![0; MEMORY_LIMIT];
+    memory[MEMORY_LIMIT - 2] = 1;
+    let bytes = input(&machine, &ADD_MEMORY, &memory);
+    command.prints(0, &bytes, "0 8 00001ea2\nstop 0\n");
+    let bytes = input(&machine, &ADD_MEMORY, &memory[1..]);
+    command.prints(1, &bytes, "0 7 00001e80\nstop 0\n");
+    // Totals around those of a program's buffers are among them.
+    for (number, extra) in [1, 2, 4089, 4090, 4091, 26_412, 30_503, 30_504, 100_000]
+        .into_iter()
+        .enumerate()
+    {
+        let memory = vec![0; MEMORY_LIMIT + extra];
+        command.prints(2 + number, &input(&machine, &ADD_MEMORY, &memory), BAD);
+        command.prints(2 + number, &input(&machine, &[], &memory), BAD);
+    }
+    let full = input(&machine, &[0x62; CODE_LIMIT], &vec![0; MEMORY_LIMIT]);
+    command.prints(20, &full, "0 5 00001e80\nstop 0\n");
+    command.prints(21, &[&full[..], &[0]].concat(), BAD);
+    let larger = [&full[..], &vec![0; 65_536][..]].concat();
+    for total in [65_535, 65_536, 65_537, larger.len()] {
+        command.prints(22, &larger[..total], BAD);
+    }
+}
+
+/// Cut at every place of the header and behind it, and at some of the vector file.
+#[test]
+fn every_cut() {
+    let command = Command::of("every cut");
+    let code = [ADD, ADD].concat();
+    let bytes = input(&one_and(0x4200), &code, &[7; 5]);
+    let header = 0..=220;
+    let body = (221..CODE_AT - 20).step_by(97);
+    let end = CODE_AT - 20..=bytes.len();
+    let (mut refused, mut cuts) = (0, 0);
+    for kept in header.chain(body).chain(end) {
+        refused += usize::from(command.agrees(kept, &bytes[..kept]) == BAD);
+        cuts += 1;
+    }
+    assert_eq!(cuts - refused, 6, "all the code and 0 to 5 bytes of memory");
+}
+
+/// Saved states that do not load: each bit of the length field, of the version and of the control
+/// word's upper half; and each bit of the code's length.
+#[test]
+fn every_damage() {
+    let command = Command::of("every damage");
+    let bytes = input(&one_and(0x4200), &[ADD, ADD].concat(), &[7; 5]);
+    let mut refused = 0;
+    for place in (0..9).chain(CODE_AT - 2..CODE_AT) {
+        for bit in 0..8 {
+            let mut damaged = bytes.clone();
+            damaged[place] ^= 1 << bit;
+            let text = command.agrees(8 * place + bit, &damaged);
+            refused += usize::from(text == BAD);
+        }
+    }
+    // Each bit of the length field and the version, of two bytes of the control word, and of the
+    // code's length all but four: 13, 14, 8 and 4 are not more than the 17 bytes that follow.
+    assert_eq!(refused, 40 + 16 + 12);
+    for version in [0, 2, 3, 255] {
+        let mut damaged = bytes.clone();
+        damaged[4] = version;
+        command.prints(1000, &damaged, BAD);
+    }
+}
+
+/// A code length that is a byte beyond the end, and one that takes all that follows.
+#[test]
+fn code_to_the_end() {
+    let command = Command::of("code to the end");
+    let mut bytes = input(&Machine::blank(), &ADD, &[0x62, 0xF5]);
+    for (number, (length, known)) in [
+        (5, "0 3 00001f80\nstop 0\n"),
+        (6, "0 0 00001f80\nstop 6\n"),
+        (7, "0 0 00001f80\n6 3 00001f80\nstop 6\n"),
+        (8, "0 0 00001f80\n6 3 00001f80\nstop 6\n"),
+        (9, BAD),
+        (10, BAD),
+    ]
+    .into_iter()
+    .enumerate()
+    {
+        bytes[CODE_AT - 1] = length;
+        command.prints(number, &bytes, known);
+    }
+}
+
+/// Input that comes in pieces, as a pipe may give it, and from a file.
+#[test]
+fn input_in_pieces() {
+    let command = Command::of("input in pieces");
+    let mut inputs = Inputs::seeded(setting("RIDGECROOK_SEED", SEED));
+    let mut random = Random::seeded(SEED);
+    for number in 0..40 {
+        let bytes = inputs.input();
+        let expected = output(&bytes);
+        let mut pieces = Vec::new();
+        let mut rest = &bytes[..];
+        while !rest.is_empty() && pieces.len() < 6 {
+            let size = random.within(1, rest.len() as i32) as usize;
+            let (piece, left) = rest.split_at(size);
+            pieces.push(piece);
+            rest = left;
+        }
+        pieces.push(rest);
+        let printed = command.program.output_of_pieces(&pieces);
+        assert_eq!(String::from_utf8_lossy(&printed), expected, "in pieces");
+        let file = command.file(number);
+        fs::write(&file, &bytes).expect("an input can be written");
+        let printed = command.program.output_of_file(&file);
+        assert_eq!(String::from_utf8_lossy(&printed), expected, "from a file");
+        fs::remove_file(&file).expect("an input can be removed");
+    }
+}
+
+/// Hundreds of instructions, up to 4,096 bytes of code.
+#[test]
+fn long_sequences() {
+    let command = Command::of("long sequences");
+    let mut inputs = Inputs::seeded(setting("RIDGECROOK_SEED", SEED));
+    let mut longest = 0;
+    for number in 0..20 {
+        let text = command.agrees(number, &inputs.sequence(700, 40));
+        longest = longest.max(text.lines().count());
+    }
+    assert!(longest > 400, "{longest} lines");
+}
+
+const THREADS: u64 = 4;
+
+/// One thread's share; how many ended in which way.
+fn share(seed: u64, count: u64) -> [u64; 11] {
+    let command = Command::of("random inputs");
+    let mut inputs = Inputs::seeded(seed);
+    let mut endings = [0; 11];
+    for number in 0..count {
+        let bytes = inputs.input();
+        let text = command.agrees((seed + number) as usize, &bytes);
+        endings[ending(&text)] += 1;
+    }
+    endings
+}
+
+#[test]
+fn random_inputs_agree() {
+    let seed = setting("RIDGECROOK_SEED", SEED);
+    let count = setting("RIDGECROOK_INPUTS", 20_000).div_ceil(THREADS);
+    let seeds = (0..THREADS).map(|thread| seed.wrapping_add(thread << 32));
+    let threads: Vec<_> = seeds
+        .map(|seed| thread::spawn(move || share(seed, count)))
+        .collect();
+    let mut endings = [0; 11];
+    for thread in threads {
+        let more = thread.join().expect("a thread found a difference");
+        endings.iter_mut().zip(more).for_each(|(all, n)| *all += n);
+    }
+    let total: u64 = endings.iter().sum();
+    log(&format!("{total} random inputs ended by {endings:?}"));
+    assert_eq!(total, THREADS * count);
+    if total >= 10_000 {
+        for reached in [0, 3, 4, 5, 7, 8, 10] {
+            assert!(endings[reached] >= 20, "{reached}: {}", endings[reached]);
+        }
+    }
+}
