@@ -14,6 +14,10 @@ use Rattle.command.specs.Command.{decimal, hex8, stepLine, stopLine, lin
 use Rattle.command.proofs.Digits.{decimal-most, decimal-short, hex-eight}
 use Rattle.command.proofs.Sizes.{moves}
 
+where-true : (t : Bool) (z : List ℕ) {x y : List ℕ} → (t ≡ true → x ≡ y) → cond t x z ≡ cond t y z
+where-true true z h = h refl
+where-true false z h = refl
+
 module _ (memory code : List ℕ) where
   -- as many steps as there are bytes left are enough
   enough : (n m : ℕ) (s : State) (at : ℕ) → length code ≤ at + n → length code ≤ at + m → linesFrom n memory code s at ≡ linesFrom m memory code s at
@@ -21,17 +25,11 @@ module _ (memory code : List ℕ) where
   enough zero zero s at h k = refl
   enough zero (suc m) s at h k = let e : length code ≤ at = omega arith in rw (le-leb (length code) at e)
   enough (suc n) zero s at h k = let e : length code ≤ at = omega arith in rw (le-leb (length code) at e)
-  enough (suc n) (suc m) s at h k = go (step memory s (drop at code)) (eqb (step memory s (drop at code) .answer .number) 0) refl
-      (λ e. enough n m _ _ (omega (arith, moves memory s (drop at code) e)) (omega (arith, moves memory s (drop at code) e)))
-    where
-      go : (o : Stepped) (t : Bool) → eqb (o .answer .number) 0 ≡ t
-          → (o .answer .number ≡ 0 → linesFrom n memory code (o .state) (at + o .answer .length) ≡ linesFrom m memory code (o .state) (at + o .answer .length))
-          → cond (leb (length code) at) (stopLine at)
-          (stepLine at (o .answer .number) (o .state .control) ++ cond t (linesFrom n memory code (o .state) (at + o .answer .length)) (stopLine at))
-          ≡ cond (leb (length code) at) (stopLine at)
-          (stepLine at (o .answer .number) (o .state .control) ++ cond t (linesFrom m memory code (o .state) (at + o .answer .length)) (stopLine at))
-      go o true e later = rw (later (eqb-true _ 0 e))
-      go o false e later = refl
+  enough (suc n) (suc m) s at h k =
+      let o : Stepped = step memory s (drop at code) in
+      rw (where-true (eqb (o .answer .number) 0) (stopLine at)
+      (λ e. let z : (6 ≤ o .answer .length) × (o .answer .length ≤ 11) = moves memory s (drop at code) (eqb-true _ 0 e) in
+      enough n m (o .state) (at + o .answer .length) (omega arith) (omega arith)))
 
   -- all lines from an offset on
   abbrev pub lines : State → ℕ → List ℕ

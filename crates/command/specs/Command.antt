@@ -11,7 +11,7 @@ use Rattle.machine.specs.Step.{step}
 use Rattle.saved.specs.Form.{numberIn, savedSize}
 use Rattle.saved.specs.Saved.{load}
 
--- ---- numbers as text
+-- ---- numbers as text, in ASCII
 
 -- in decimal, of at most n digits
 unfoldable pub decimalOf : ℕ → ℕ → List ℕ
@@ -26,7 +26,7 @@ decimal x = decimalOf 20 x
 abbrev pub hexDigit : ℕ → ℕ
 hexDigit x = cond (ltb x 10) (48 + x) (87 + x)
 
--- "eight lower-case hex digits"
+-- "eight lower-case hex digits", the highest first: all of a 32-bit number
 unfoldable pub hex8 : ℕ → List ℕ
 hex8 x = table 8 (λ k. hexDigit (x / 16 ^ (7 - k) % 16))
 
@@ -46,7 +46,7 @@ stepLine at number control = decimal at ++ space ++ decimal number ++ space ++ h
 unfoldable pub stopLine : ℕ → List ℕ
 stopLine at = (115 ∷ 116 ∷ 111 ∷ 112 ∷ 32 ∷ []) ++ decimal at ++ lineFeed
 
--- "prints only `bad input`"
+-- "prints only `bad input`", as a line
 unfoldable pub badInput : List ℕ
 badInput = 98 ∷ 97 ∷ 100 ∷ 32 ∷ 105 ∷ 110 ∷ 112 ∷ 117 ∷ 116 ∷ lineFeed
 
@@ -78,9 +78,11 @@ codeOf input = take (codeLength input) (drop (savedSize + 2) input)
 abbrev pub memoryOf : List ℕ → List ℕ
 memoryOf input = drop (savedSize + 2 + codeLength input) input
 
+-- the state that the steps begin with
 abbrev pub startOf : List ℕ → State
 startOf input = load (take savedSize input) blank .state
 
+-- every part is there and has its size
 unfoldable pub isLaidOut : List ℕ → Bool
 isLaidOut input =
     leb (savedSize + 2) (length input)
@@ -88,6 +90,7 @@ isLaidOut input =
     && leb (savedSize + 2 + codeLength input) (length input)
     && leb (length (memoryOf input)) 32768
 
+-- and the saved state can be loaded. "Other input prints only `bad input`."
 unfoldable pub isGood : List ℕ → Bool
 isGood input = isLaidOut input && eqb (load (take savedSize input) blank .number) 0
 

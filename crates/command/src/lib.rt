@@ -1,7 +1,7 @@
 // The command: a saved state, code and memory are read, steps are made, and their lines are put into the output.
 ghost use mathlib.Core.Path.{_≡_};
 ghost use Prim.Native.Nat.{_+_, _≤_, _<_};
-ghost use lib.ListN.{length, take, drop};
+ghost use lib.ListN.{length, drop};
 ghost use Rattle.machine.specs.Step.{step};
 ghost use Rattle.step.specs.Stepped.{stateOf, steppedOf};
 ghost use Rattle.command.specs.Command.{stepLine, linesFrom, codeLength, isLaidOut, printed, room, commanded, Wrote};
@@ -94,7 +94,7 @@ fn wide(x: u8) -> usize
     x as usize
 }
 
-// Behind the saved state, the higher byte first.
+// The code's length: two bytes behind the saved state, the higher first.
 fn code_length(input: &[u8]) -> usize
     requires { ⌜ 2259 ≤ length (now input) ⌝ }
     ensures { λ r. ⌜ (r ≡ codeLength (now (input .entry))) × (r < 65536) ⌝ }
@@ -102,6 +102,7 @@ fn code_length(input: &[u8]) -> usize
     wide(input[2257]) * 256 + wide(input[2258])
 }
 
+// Saved state, code length, code and memory have their sizes.
 fn is_laid_out(input: &[u8]) -> bool
     ensures { λ r. ⌜ r ≡ isLaidOut (now (input .entry)) ⌝ }
 {
@@ -119,6 +120,7 @@ fn is_laid_out(input: &[u8]) -> bool
     input.len() - end <= 32768
 }
 
+// All that is printed for the input.
 fn print(input: &[u8], out: &mut [u8]) -> usize
     requires { ⌜ room ≤ length (now out) ⌝ }
     ensures { λ r. ⌜ Put (printed (now (input .entry))) (now (out .entry)) 0 r (now (out .exit)) ⌝ }
@@ -155,7 +157,8 @@ fn print(input: &[u8], out: &mut [u8]) -> usize
     )
 }
 
-// How many bytes were written. Less output than every text fits into: none.
+// All that is printed for the input goes to the start of the output; the answer is its length. Every text fits 12,288 bytes: in a shorter
+// output nothing is written, and the answer is 0.
 pub fn command(input: &[u8], output: &mut [u8]) -> usize
     ensures { λ r. ⌜ Wrote (commanded (now (input .entry)) (now (output .entry))) (now (output .entry)) r (now (output .exit)) ⌝ }
 {

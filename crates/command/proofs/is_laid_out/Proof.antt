@@ -1,6 +1,7 @@
 -- `command::is_laid_out` meets its contract: each return has decided the tests before it.
 -- Assumes nothing.
 use Prim.Native.Nat.{_≤_, _<_}
+use mathlib.Core.Path.{refl}
 use native.Mathlib.Omega.{arith}
 use borrow.Author.Tests.{le-leb, lt-leb}
 use borrow.Author.Needs.{needs}
@@ -38,7 +39,7 @@ returns-4 : tie.Need-returns-4
 unfolding isLaidOut
 returns-4 c =
     let short : c .before .before .code-length .result ≤ 4096 = omega arith in
-    rw (le-leb 2259 _ (c .before .before .before .if1 .left), ← c .before .before .code-length .ensures .0, le-leb _ 4096 short, le-leb _ _ (c .if3 .left), length-drop)
+    rw (le-leb 2259 _ (c .before .before .before .if1 .left), ← c .before .before .code-length .ensures .0, le-leb _ 4096 short, le-leb _ _ (c .if3 .left), length-drop) refl
 
 pub is-laid-out-spec : {M : Type 1} → statement M
 is-laid-out-spec =
