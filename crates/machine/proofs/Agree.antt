@@ -7,14 +7,10 @@ use native.Mathlib.Decide.{decLt}
 use native.Mathlib.Omega.{arith}
 use lib.ListN.{length, getD, List·getD-eq-default}
 use lib.Seq.{paste, length-paste}
+use Rattle.machine.specs.Lists.{Each}
 use Rattle.machine.specs.State.{numberAt}
 use Rattle.machine.specs.TwoRuns.{EqualOpen}
 use Rattle.machine.proofs.Tables.{paste-before, paste-inside, paste-after}
-
--- P holds of each element
-abbrev pub Each : (ℕ → Type 0) → List ℕ → Type 0
-Each P [] = Unit {0}
-Each P (x ∷ xs) = P x × Each P xs
 
 pub each-of : {P : ℕ → Type 0} (xs : List ℕ) → ((x : ℕ) → List·Memᴰ x xs → P x) → Each P xs
 each-of [] h = tt

@@ -16,3 +16,8 @@ table n f = tableFrom 0 n f
 abbrev pub orAll : List ℕ → ℕ
 orAll [] = 0
 orAll (x ∷ xs) = bitOr x (orAll xs)
+
+-- every element has the property
+abbrev pub Each : (ℕ → Type 0) → List ℕ → Type 0
+Each P [] = Unit {0}
+Each P (x ∷ xs) = P x × Each P xs

@@ -10,12 +10,12 @@ use lib.Dec.{eqb, lit≤}
 use lib.ListN.{length, getD, take, drop, length-drop, take-append-drop}
 use lib.Seq.{getD-take, getD-drop, drop-cons}
 use Rattle.machine.specs.Answers.{NoneHolds}
-use Rattle.machine.specs.Lists.{table}
+use Rattle.machine.specs.Lists.{table, Each}
 use Rattle.machine.specs.State.{State}
 use Rattle.machine.specs.Step.{wrongVectorFile, highControlBit}
 use Rattle.machine.proofs.First.{none-holds, holds-none}
 use Rattle.saved.specs.Form.{big, valueFrom, numberIn, registers, numbers, savedForm, loadedState}
-use Rattle.saved.specs.Saved.{wrongTarget, saveConditions, Save, save, wrongSize, wrongLength, wrongVersion, loadConditions, Load, load, Each, Held, LoadAfterSave, SaveAfterLoad}
+use Rattle.saved.specs.Saved.{wrongTarget, saveConditions, Save, save, wrongSize, wrongLength, wrongVersion, loadConditions, Load, load, Held, LoadAfterSave, SaveAfterLoad}
 use Rattle.saved.proofs.Slices.{part-part, part-next, length-part, each-part}
 use Rattle.saved.proofs.Numbers.{value-big, big-value}
 use Rattle.saved.proofs.Registers.{read-registers, write-registers}

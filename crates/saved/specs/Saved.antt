@@ -6,6 +6,7 @@ use mathlib.Core.Path.{_≡_}
 use lib.Dec.{eqb}
 use lib.ListN.{length, getD}
 use Rattle.evex.specs.First.{firstOf}
+use Rattle.machine.specs.Lists.{Each}
 use Rattle.machine.specs.State.{State}
 use Rattle.machine.specs.Step.{wrongVectorFile, highControlBit}
 use Rattle.saved.specs.Form.{numberIn, savedSize, savedForm, loadedState}
@@ -60,10 +61,6 @@ load bytes s =
     record { number = n; state = cond (eqb n 0) (loadedState bytes) s }
 
 -- ---- round trips
-
-abbrev pub Each : (ℕ → Type 0) → List ℕ → Type 0
-Each P [] = Unit {0}
-Each P (x ∷ xs) = P x × Each P xs
 
 -- A state that the machine's registers can hold: what the round trip supposes of a state. Its vector file may have any size.
 pub record Held (s : State) : Type 0 where
