@@ -2,14 +2,15 @@
 use Prim.Native.Nat.{ℕ, _*_, _^_}
 use mathlib.Core.Bool.{Bool, true, false, not, _&&_, _||_, cond}
 use mathlib.Core.List.{[], _∷_}
-use mathlib.Core.Path.{_≡_, refl, sym, _∙_}
-use Rattle.half.specs.Format.{isFinite, isInfinite, isNan, isSignalling, isSubnormal, isZero, negative, units}
+use mathlib.Core.Path.{_≡_, refl}
+use borrow.Author.Tests.{not-true}
+use Rattle.half.specs.Format.{isFinite, isNan, isSignalling, isSubnormal, isZero, negative, units}
 use Rattle.half.specs.Exact.{fraction, rootOf}
 use Rattle.half.specs.Round.{roundedHalf}
-use Rattle.half.specs.Operations.{some, nanResult, withDenormals, unlike, exactSum, halfAdd, halfMultiply, halfDivide, halfRoot, halfMultiplyAdd}
+use Rattle.half.specs.Operations.{nanResult, withDenormals, unlike, exactSum, halfAdd, halfMultiply, halfDivide, halfRoot, halfMultiplyAdd}
 use Rattle.half.specs.declared.Mode.{Mode}
-use Rattle.half.proofs.Compare.{and-false, or-left, or-right}
-use Rattle.half.proofs.Units.{finite-no-nan, finite-no-infinity, must-be-infinite}
+use Rattle.half.proofs.Compare.{and-false}
+use Rattle.half.proofs.Units.{finite-no-nan, finite-no-infinity}
 
 -- ---- the last operand once more
 
@@ -62,11 +63,7 @@ module _ (mode : Mode) (unmasked : Bool) (a b : ℕ) where
     divisor-finite = and-left (isFinite b) (not (isZero b)) (and-right (isFinite a) (isFinite b && not (isZero b)) f)
 
     pub divisor-not-zero : isZero b ≡ false
-    divisor-not-zero = go (isZero b) (and-right (isFinite b) (not (isZero b)) (and-right (isFinite a) (isFinite b && not (isZero b)) f))
-      where
-        go : (z : Bool) → not z ≡ true → z ≡ false
-        go true e = cc
-        go false e = refl
+    divisor-not-zero = not-true (isZero b) (and-right (isFinite b) (not (isZero b)) (and-right (isFinite a) (isFinite b && not (isZero b)) f))
 
     pub finite-divide : halfDivide mode unmasked a b ≡ withDenormals (a ∷ b ∷ []) (roundedHalf mode unmasked (unlike a b) (fraction (units a) (units b)))
     unfolding halfDivide
@@ -88,19 +85,29 @@ module _ (mode : Mode) (unmasked : Bool) (a b c : ℕ) (f : (isFinite a && (isFi
   finite-multiply-add =
       rw (finite-no-nan a first, finite-no-nan b second, finite-no-nan c third, finite-no-infinity a first, finite-no-infinity b second, finite-no-infinity c third, and-false (isZero a))
 
--- a root that is none of the rules before
-module _ (mode : Mode) (unmasked : Bool) (a : ℕ) (n : some isNan (a ∷ []) ≡ false) (i : (isZero a || isInfinite a) ≡ false) where
-  pub root-finite : (isFinite a ≡ true) × (isZero a ≡ false)
-  root-finite = (go (isFinite a) refl, or-left (isZero a) (isInfinite a) i)
-    where
-      go : (b : Bool) → isFinite a ≡ b → b ≡ true
-      go true e = refl
-      go false e = sym (or-right (isZero a) (isInfinite a) i) ∙ must-be-infinite a e (or-left (isNan a) false n)
+-- a root of a finite number above 0
+module _ (a : ℕ) (f : (isFinite a && (not (negative a) && not (isZero a))) ≡ true) where
+  radicand-finite : isFinite a ≡ true
+  radicand-finite = and-left (isFinite a) (not (negative a) && not (isZero a)) f
 
-  pub finite-root : (negative a && not (isZero a)) ≡ false → withDenormals (a ∷ a ∷ a ∷ []) (roundedHalf mode unmasked false (rootOf (units a) (2 ^ 24))) ≡ halfRoot mode unmasked a
+  above-zero : (not (negative a) && not (isZero a)) ≡ true
+  above-zero = and-right (isFinite a) (not (negative a) && not (isZero a)) f
+
+  not-zero : isZero a ≡ false
+  not-zero = not-true (isZero a) (and-right (not (negative a)) (not (isZero a)) above-zero)
+
+  pub root-finite : (isFinite a ≡ true) × (isZero a ≡ false)
+  root-finite = (radicand-finite, not-zero)
+
+  pub finite-root : (mode : Mode) (unmasked : Bool) → halfRoot mode unmasked a ≡ withDenormals (a ∷ a ∷ a ∷ []) (roundedHalf mode unmasked false (rootOf (units a) (2 ^ 24)))
   unfolding halfRoot
-  finite-root v = rw (n, v, i, again (isSubnormal a), again (isSubnormal a))
+  finite-root mode unmasked =
+      rw (finite-no-nan a radicand-finite, finite-no-infinity a radicand-finite, not-zero, not-true (negative a) (and-left (not (negative a)) (not (isZero a)) above-zero), again (isSubnormal a), again (isSubnormal a))
 
 -- the code's test of a dividend and a divisor
 pub ordinary : (a b : ℕ) {p q z t : Bool} → p ≡ isFinite a → q ≡ isFinite b → z ≡ isZero b → (p && (q && not z)) ≡ t → (isFinite a && (isFinite b && not (isZero b))) ≡ t
 ordinary a b hp hq hz e = rw (← hp, ← hq, ← hz) e
+
+-- and of a radicand
+pub radicand : (a : ℕ) {p s z t : Bool} → p ≡ isFinite a → s ≡ negative a → z ≡ isZero a → (p && (not s && not z)) ≡ t → (isFinite a && (not (negative a) && not (isZero a))) ≡ t
+radicand a hp hs hz e = rw (← hp, ← hs, ← hz) e

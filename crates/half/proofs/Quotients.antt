@@ -1,34 +1,69 @@
--- Quotients as the code works them out: the place of x / y among the multiples of 2 ^ -26, in 64 bits.
-use Prim.Native.Nat.{ℕ, _+_, _*_, _/_, _%_, _^_, _<_}
-use mathlib.Core.Path.{_≡_, ap, _∙_}
+-- Quotients as the code works them out: in the smaller one of the operands' units, and with one division.
+use Prim.Native.Nat.{ℕ, _+_, _-_, _*_, _/_, _%_, _^_, _≤_, _<_, min}
+use mathlib.Core.Bool.{Bool, true, false}
+use mathlib.Core.Path.{_≡_, refl, sym, ap, _∙_}
 use native.Mathlib.Omega.{arith}
-use native.Mathlib.Nat.{mul-add-div-right, mul-add-mod-self-right, div-add-mod', mod-lt, div-lt-iff-lt-mul}
+use native.Mathlib.Nat.{div-le-self, div-lt-iff-lt-mul, mul-assoc, mul-pos}
+use lib.Dec.{leb}
+use lib.Pow.{pow-add, pow-pos}
+use borrow.Author.Tests.{leb-true, leb-false}
+use Rattle.half.specs.Format.{isZero, significand, units}
+use Rattle.half.specs.Exact.{fraction}
+use Rattle.half.specs.Round.{roundedHalf}
 use Rattle.half.specs.Work.{more, place}
+use Rattle.half.specs.declared.Mode.{Mode}
+use Rattle.half.specs.declared.Outcome.{Outcome}
+use Rattle.half.proofs.Units.{lift, lift-le, significand-lt, significand-pos, raised-exact}
+use Rattle.half.proofs.Sticky.{rounded-scale}
 
-module _ (x y : ℕ) (hy : 0 < y) where
-  pub bound : x < y * 2 ^ 20 → (x * 2 ^ 24 / y * 4 + x * 2 ^ 24 % y * 4 / y) * 2 + 1 < 2 ^ 48
-  bound h =
-      let q : x * 2 ^ 24 / y < 2 ^ 44 = div-lt-iff-lt-mul hy .1 (omega arith) in
-      let r : x * 2 ^ 24 % y * 4 / y < 4 = div-lt-iff-lt-mul hy .1 (let m : x * 2 ^ 24 % y < y = mod-lt (x * 2 ^ 24) hy in omega arith) in
-      omega arith
+-- ---- the place of x / y
+pub place-fits : (x y : ℕ) → x < 2 ^ 37 → x * 2 ^ 26 / y * 2 + 1 < 2 ^ 64
+place-fits x y h = omega (arith, div-le-self (x * 2 ^ 26) y)
 
-  whole : x * 2 ^ 26 ≡ x * 2 ^ 24 / y * 4 * y + x * 2 ^ 24 % y * 4
-  whole = omega (arith, div-add-mod' (x * 2 ^ 24) y)
-
-  divided : x * 2 ^ 26 / y ≡ x * 2 ^ 24 / y * 4 + x * 2 ^ 24 % y * 4 / y
-  divided = ap (λ (n : ℕ). n / y) whole ∙ mul-add-div-right hy (x * 2 ^ 24 / y * 4) (x * 2 ^ 24 % y * 4)
-
-  left : x * 2 ^ 26 % y ≡ x * 2 ^ 24 % y * 4 % y
-  left = ap (λ (n : ℕ). n % y) whole ∙ mul-add-mod-self-right (x * 2 ^ 24 / y * 4) y (x * 2 ^ 24 % y * 4)
-
-  pub place-even : x * 2 ^ 24 % y * 4 % y ≡ 0 → (x * 2 ^ 24 / y * 4 + x * 2 ^ 24 % y * 4 / y) * 2 ≡ place (x * 2 ^ 26) y
+module _ (x y : ℕ) where
+  pub place-even : x * 2 ^ 26 % y ≡ 0 → x * 2 ^ 26 / y * 2 ≡ place (x * 2 ^ 26) y
   unfolding place
-  place-even e = rw (divided, left, e) (omega arith)
+  place-even e = rw e (omega arith)
 
-  pub place-odd : (x * 2 ^ 24 % y * 4 % y ≡ 0 → ⊥) → (x * 2 ^ 24 / y * 4 + x * 2 ^ 24 % y * 4 / y) * 2 + 1 ≡ place (x * 2 ^ 26) y
+  pub place-odd : (x * 2 ^ 26 % y ≡ 0 → ⊥) → x * 2 ^ 26 / y * 2 + 1 ≡ place (x * 2 ^ 26) y
   unfolding place
-  place-odd e = let m : more (x * 2 ^ 24 % y * 4 % y) ≡ 1 = omega arith in rw (divided, left, m) (omega arith)
+  place-odd e = let m : more (x * 2 ^ 26 % y) ≡ 1 = omega arith in rw m (omega arith)
 
--- below 2 ^ 20
-pub in-range : (x y : ℕ) → x / 2 ^ 20 < y → x < y * 2 ^ 20
-in-range x y h = div-lt-iff-lt-mul {k = 2 ^ 20} {x = x} {y = y} (omega arith) .0 h
+  -- below 2 ^ 20
+  pub in-range : x / 2 ^ 20 < y → min x y < 2 ^ 11 → x < 2 ^ 37
+  in-range h s = let l : x < y * 2 ^ 20 = div-lt-iff-lt-mul {k = 2 ^ 20} {x = x} {y = y} (omega arith) .0 h in omega arith
+
+-- ---- the significand of a in the smaller one of two units
+abbrev beside : ℕ → ℕ → ℕ
+beside a b = significand a * 2 ^ (lift a - lift b)
+
+-- as the code works it out
+module _ (a b : ℕ) {s i j : ℕ} (hs : s ≡ significand a) (hi : i ≡ lift a) (hj : j ≡ lift b) where
+  pub not-raised : i ≤ j → s ≡ beside a b
+  not-raised l = let z : lift a - lift b ≡ 0 = omega arith in rw (z, ← hs) (omega arith)
+
+  pub raised-by : s * 2 ^ (i - j) % 2 ^ 64 ≡ beside a b
+  raised-by = rw (← hs, ← hi, ← hj) (raised-exact a s (i - j) hs (omega (arith, lift-le a)))
+
+in-units : (a b c : ℕ) → c ≡ min (lift a) (lift b) → beside a b * 2 ^ c ≡ units a
+unfolding units
+in-units a b c e =
+    mul-assoc (significand a) (2 ^ (lift a - lift b)) (2 ^ c)
+    ∙ ap (λ (n : ℕ). significand a * n) (sym (pow-add 2 (lift a - lift b) c) ∙ ap (λ (n : ℕ). 2 ^ n) (let f : lift a - lift b + c ≡ lift a = omega arith in f))
+
+module _ (a b : ℕ) {x y : ℕ} (hx : x ≡ beside a b) (hy : y ≡ beside b a) where
+  pub divisor-pos : isZero b ≡ false → 0 < y
+  divisor-pos z = rw hy (mul-pos {m = significand b} {n = 2 ^ (lift b - lift a)} (significand-pos b z) (pow-pos (lift b - lift a)))
+
+  pub one-small : min x y < 2 ^ 11
+  one-small = go (leb (lift a) (lift b)) refl
+    where
+      go : (t : Bool) → leb (lift a) (lift b) ≡ t → min x y < 2 ^ 11
+      go true e = let l : lift a ≤ lift b = leb-true _ _ e in let f : x ≡ significand a = hx ∙ sym (not-raised a b refl refl refl l) in omega (arith, significand-lt a)
+      go false e = let l : lift b < lift a = leb-false _ _ e in let f : y ≡ significand b = hy ∙ sym (not-raised b a refl refl refl (omega arith)) in omega (arith, significand-lt b)
+
+  pub quotient-units : (mode : Mode) (unmasked neg : Bool) → isZero b ≡ false → {o : Outcome} → o ≡ roundedHalf mode unmasked neg (fraction x y) → o ≡ roundedHalf mode unmasked neg (fraction (units a) (units b))
+  quotient-units mode unmasked neg z h =
+      let c : ℕ = min (lift a) (lift b) in
+      h ∙ sym (rounded-scale mode unmasked neg x y (2 ^ c) (divisor-pos z) (pow-pos c))
+      ∙ rw (hx, hy, in-units a b c refl, in-units b a c (omega arith))

@@ -124,6 +124,11 @@ mean-above n g hg =
             let l : y < x = leb-false _ _ e in
             rw (mul-comm x y, add-comm x y) (subst (λ (z : ℕ). 4 * (y * z) ≤ (y + z) * (y + z)) (let f : y + (x - y) ≡ x = omega arith in f) (ordered y (x - y)))
 
+-- one down: n stays below the square of s + 1
+pub down : (n s : ℕ) → n < s * s → (0 < s) × (n < (s - 1 + 1) * (s - 1 + 1))
+down n zero h = absurd (let z : n < 0 * 0 = h in omega arith)
+down n (suc s) h = let e : suc s - 1 + 1 ≡ suc s = omega arith in (omega arith, rw e h)
+
 -- the root, found from above
 pub root-found : (n s : ℕ) → n < 2 ^ 26 → n < (s + 1) * (s + 1) → s * s ≤ n → s ≡ rootFrom 13 n 0
 root-found n s h hi lo = root-one n s (rootFrom 13 n 0) (lo, hi) (root-of 13 n (omega arith))

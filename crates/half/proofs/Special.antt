@@ -160,6 +160,16 @@ module _ (a : ℕ) (mode : Mode) (unmasked : Bool) where
     unfolding halfRoot
     root-itself v i d = rw (n, v, i, or-zero-r, ← again (isSubnormal a), two-denormals a a d)
 
+-- a radicand left by the rules before
+pub radicand-itself : (a : ℕ) → (isFinite a && (not (negative a) && not (isZero a))) ≡ false → some isNan (a ∷ []) ≡ false → (negative a && not (isZero a)) ≡ false → (isZero a || isInfinite a) ≡ true
+radicand-itself a f n v = go (isFinite a) (negative a) (isZero a) refl f v
+  where
+    go : (x s z : Bool) → isFinite a ≡ x → (x && (not s && not z)) ≡ false → (s && not z) ≡ false → (z || isInfinite a) ≡ true
+    go x s true e g w = refl
+    go false s false e g w = must-be-infinite a e (or-left (isNan a) false n)
+    go true true false e g w = cc
+    go true false false e g w = cc
+
 -- ---- fused
 module _ (a b c : ℕ) (mode : Mode) (unmasked : Bool) where
   pub fused-nan : some isNan (a ∷ b ∷ c ∷ []) ≡ true → {o : Outcome} → o ≡ nanResult (a ∷ b ∷ c ∷ []) → o ≡ halfMultiplyAdd mode unmasked a b c

@@ -1,21 +1,22 @@
 -- Rounding as the code does it, piece by piece: z / 4 to a whole number, and t / 2 ^ 27 to a half.
 use Prim.Native.Nat.{ℕ, _+_, _-_, _*_, _/_, _%_, _^_, _≤_, _<_, compare, Ordering, Ordering·lt, Ordering·eq, Ordering·gt}
 use mathlib.Core.Bool.{Bool, true, false, not, _&&_, _||_, cond}
-use mathlib.Core.Path.{_≡_, sym, _∙_}
+use mathlib.Core.Path.{_≡_, refl, sym, ap, _∙_}
 use native.Mathlib.Omega.{arith}
 use native.Mathlib.Nat.{pos-of-ne-zero}
 use lib.Bits.{bitOr}
-use lib.Dec.{ltb, eqb}
+use lib.Dec.{leb, ltb, eqb}
 use lib.Ieee.{size, nearest}
-use borrow.Author.Tests.{le-leb, lt-leb, le-ltb, lt-ltb}
+use borrow.Author.Tests.{le-leb, lt-leb, le-ltb, lt-ltb, ltb-true, ltb-false, leb-true, leb-false, eqb-true, eqb-false}
 use Rattle.half.specs.Format.{signed}
-use Rattle.half.specs.Exact.{fraction, whole, against, isNearest, outward, ceiling, roundTo}
+use Rattle.half.specs.Exact.{fraction, against, isNearest, outward, ceiling, roundTo}
 use Rattle.half.specs.Round.{OE, UE, PE, flag, result, tiny, overflowFields, roundedHalf}
 use Rattle.half.specs.Work.{place}
 use Rattle.half.specs.declared.Mode.{Mode}
 use Rattle.half.specs.declared.Outcome.{Outcome}
-use Rattle.half.proofs.Compare.{cmp, Cmp, and-false}
-use Rattle.half.proofs.Bridge.{steps, steps-ge, quarter, coarse, tiny-is}
+use Rattle.half.proofs.Compare.{cmp, Cmp}
+use Rattle.half.proofs.Cuts.{roundTo-exact}
+use Rattle.half.proofs.Bridge.{steps, quarter, coarse, tiny-is}
 use Rattle.half.proofs.Sticky.{own-place, of-place}
 
 -- ---- to a whole number
@@ -68,14 +69,29 @@ module _ (mode : Mode) (neg : Bool) (t : ℕ) where
   at : tiny mode neg (fraction t (2 ^ 27)) ≡ (ltb 0 t && ltb (steps mode neg t) 2048)
   at = tiny-is (fraction t (2 ^ 27)) t (omega arith) (own-place t) mode neg
 
-  pub zero-not-tiny : t ≡ 0 → false ≡ tiny mode neg (fraction t (2 ^ 27))
-  zero-not-tiny e = sym (at ∙ rw (le-ltb 0 t (omega arith)))
+  same : (l m : ℕ) → (t < l → m < 2048) → (l ≤ t → 2048 ≤ m) → ltb t l ≡ ltb m 2048
+  same l m f g = go (ltb t l) refl
+    where
+      go : (b : Bool) → ltb t l ≡ b → b ≡ ltb m 2048
+      go true e = sym (lt-ltb m 2048 (f (ltb-true _ _ e)))
+      go false e = sym (le-ltb m 2048 (g (ltb-false _ _ e)))
 
-  pub large-not-tiny : 8192 ≤ t → false ≡ tiny mode neg (fraction t (2 ^ 27))
-  large-not-tiny l = sym (at ∙ rw (le-ltb (steps mode neg t) 2048 (omega (arith, steps-ge mode neg t))) (and-false (ltb 0 t)))
+  -- c is what is carried into 2 ^ -14 from the last step below it, which is odd
+  pub tiny-below : {n o : Bool} {c : ℕ} → n ≡ isNearest mode → o ≡ outward mode neg → c ≡ cond n (1 + 1) (cond o 3 0) → (not (eqb t 0) && ltb t (8192 - c)) ≡ tiny mode neg (fraction t (2 ^ 27))
+  tiny-below {n} {o} {c} hn ho hc = rw (pos (eqb t 0) refl, limit n o hc ∙ ap (λ (m : ℕ). ltb m 2048) (carried mode neg t hn ho refl)) (sym at)
+    where
+      pos : (b : Bool) → eqb t 0 ≡ b → not b ≡ ltb 0 t
+      pos true e = sym (le-ltb 0 t (omega (arith, eqb-true t 0 e)))
+      pos false e = sym (lt-ltb 0 t (pos-of-ne-zero (eqb-false t 0 e)))
 
-  pub tiny-steps : (t ≡ 0 → ⊥) → {s : ℕ} → s ≡ steps mode neg t → ltb s 2048 ≡ tiny mode neg (fraction t (2 ^ 27))
-  tiny-steps n e = sym (at ∙ rw (lt-ltb 0 t (pos-of-ne-zero n), ← e))
+      limit : (n o : Bool) → c ≡ cond n (1 + 1) (cond o 3 0) → ltb t (8192 - c) ≡ ltb ((t + cond n (1 + t / 4 % 2) (cond o 3 0)) / 4) 2048
+      limit true o e = same (8192 - c) ((t + (1 + t / 4 % 2)) / 4) (λ (l : t < 8192 - c). omega arith) (λ (l : 8192 - c ≤ t). over (leb 8192 t) refl (omega arith))
+        where
+          over : (b : Bool) → leb 8192 t ≡ b → 8190 ≤ t → 2048 ≤ (t + (1 + t / 4 % 2)) / 4
+          over true g h = omega (arith, leb-true 8192 t g)
+          over false g h = let q : t / 4 ≡ 2047 = omega (arith, leb-false 8192 t g) in let r : t / 4 % 2 ≡ 1 = ap (λ (n : ℕ). n % 2) q in omega arith
+      limit false true e = same (8192 - c) ((t + 3) / 4) (λ (l : t < 8192 - c). omega arith) (λ (l : 8192 - c ≤ t). omega arith)
+      limit false false e = same (8192 - c) ((t + 0) / 4) (λ (l : t < 8192 - c). omega arith) (λ (l : 8192 - c ≤ t). omega arith)
 
 -- ---- to a half
 module _ (mode : Mode) (unmasked neg : Bool) (t k z q : ℕ) (hk : k ≡ size t - 14) (hz : z ≡ place t (2 ^ (k + 2))) (hq : q ≡ steps mode neg z) where
@@ -89,3 +105,10 @@ module _ (mode : Mode) (unmasked neg : Bool) (t k z q : ℕ) (hk : k ≡ size t 
   fit g hb hh hp hu =
       let b : _ = hb ∙ at mode neg t in
       sym (of-place mode unmasked neg t ∙ rw (← hk, ← hz, ← hq, lt-leb 31744 (k * 1024 + q) g, ← hh, ← hp, ← b, ← hu))
+
+-- ---- zero
+pub zero-rounds : (mode : Mode) (unmasked neg : Bool) → result (signed neg 0) 0 ≡ roundedHalf mode unmasked neg (fraction 0 (2 ^ 27))
+unfolding place size
+zero-rounds mode unmasked neg =
+    let q : steps mode neg 0 ≡ 0 = roundTo-exact mode neg (fraction 0 4) 1 1 (omega arith) (omega arith) 0 (omega arith) in
+    fit mode unmasked neg 0 0 0 0 refl refl (sym q) (omega arith) {b = false} (sym (at mode neg 0)) refl refl refl

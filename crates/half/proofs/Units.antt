@@ -73,20 +73,21 @@ finite-le h f =
 pub finite-lt : (h : ℕ) → isFinite h ≡ true → units h < 2 ^ 40
 finite-lt h f = omega (arith, finite-le h f)
 
-pub units-pos : (h : ℕ) → isZero h ≡ false → 0 < units h
-unfolding units
-units-pos h z = mul-pos {m = significand h} {n = 2 ^ lift h} (go (eqb (exponentField h) 0) z) (pow-pos (lift h))
+pub significand-pos : (h : ℕ) → isZero h ≡ false → 0 < significand h
+significand-pos h z = go (eqb (exponentField h) 0) z
   where
     go : (b : Bool) → (b && eqb (fractionField h) 0) ≡ false → 0 < cond b (fractionField h) (1024 + fractionField h)
     go true e = let n : (fractionField h ≡ 0 → ⊥) = eqb-false (fractionField h) 0 e in omega arith
     go false e = omega arith
 
--- as the code works it out: e is the exponent field, s the significand
-module _ (h : ℕ) {e s : ℕ} (he : e ≡ exponentField h) (hs : s ≡ significand h) where
-  pub units-low : e ≡ 0 → s ≡ units h
-  unfolding units
-  units-low z = let l : lift h ≡ 0 = omega arith in rw (l, ← hs) (omega arith)
+pub units-pos : (h : ℕ) → isZero h ≡ false → 0 < units h
+unfolding units
+units-pos h z = mul-pos {m = significand h} {n = 2 ^ lift h} (significand-pos h z) (pow-pos (lift h))
 
-  pub units-high : (e ≡ 0 → ⊥) → s * 2 ^ (e - 1) % 2 ^ 64 ≡ units h
-  unfolding units
-  units-high n = rw (← hs, ← he) (shl-exact {a = s} 11 (e - 1) 64 (omega (arith, significand-lt h)) (omega arith))
+-- as the code works it out: s is the significand, raised by no more than an exponent field says
+pub raised-exact : (h s l : ℕ) → s ≡ significand h → l ≤ 30 → s * 2 ^ l % 2 ^ 64 ≡ s * 2 ^ l
+raised-exact h s l hs hl = shl-exact {a = s} 11 l 64 (omega (arith, significand-lt h)) (omega arith)
+
+pub units-raised : (h : ℕ) {s l : ℕ} → s ≡ significand h → l ≡ lift h → s * 2 ^ l % 2 ^ 64 ≡ units h
+unfolding units
+units-raised h {s} {l} hs hl = rw (← hs, ← hl) (raised-exact h s l hs (omega (arith, lift-le h)))

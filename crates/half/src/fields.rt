@@ -1,6 +1,6 @@
 // The fields of a half, by shifts and masks, and halves made of them.
 ghost use mathlib.Core.Path.{_≡_};
-ghost use Prim.Native.Nat.{_<_};
+ghost use Prim.Native.Nat.{_<_, _-_};
 ghost use Rattle.half.specs.Format.{negative, exponentField, fractionField, isFinite, isInfinite, isNan, isSignalling, isZero, isSubnormal, significand, units, signed, quiet};
 ghost use Rattle.half.specs.Work.{scale};
 
@@ -65,24 +65,26 @@ pub fn significand_of(h: u16) -> u64
     if exponent_of(h) == 0 { f } else { 1024 + f }
 }
 
+// How far the exponent field lifts the significand above the smallest halves.
+pub fn lift_of(h: u16) -> u16
+    ensures { λ r. ⌜ r ≡ exponentField h - 1 ⌝ }
+{
+    let e = exponent_of(h);
+    if e == 0 { 0 } else { e - 1 }
+}
+
 // The unbiased exponent of the significand's lowest bit.
 pub fn scale_of(h: u16) -> i32
     ensures { λ r. ⌜ r ≡ scale h ⌝ }
 {
-    let e = exponent_of(h);
-    if e == 0 {
-        return -24;
-    }
-    (e - 1) as i32 - 24
+    lift_of(h) as i32 - 24
 }
 
 // The magnitude times 2^24.
 pub fn magnitude(h: u16) -> u64
     ensures { λ r. ⌜ r ≡ units h ⌝ }
 {
-    let e = exponent_of(h);
-    let s = significand_of(h);
-    if e == 0 { s } else { s << (e - 1) }
+    significand_of(h) << lift_of(h)
 }
 
 pub fn with_sign(neg: bool, m: u16) -> u16

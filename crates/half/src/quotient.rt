@@ -1,8 +1,8 @@
 // Division.
 ghost use mathlib.Core.Path.{_≡_};
-ghost use Prim.Native.Nat.{_<_, _≤_, _+_, _*_, _^_};
+ghost use Prim.Native.Nat.{_<_, _-_, _*_, _^_, min};
 ghost use mathlib.Core.Bool.{Bool, false, not, _&&_};
-ghost use Rattle.half.specs.Format.{isFinite, isZero};
+ghost use Rattle.half.specs.Format.{exponentField, isFinite, isZero, significand};
 ghost use Rattle.half.specs.Exact.{fraction};
 ghost use Rattle.half.specs.Round.{roundedHalf};
 ghost use Rattle.half.specs.Operations.{halfDivide};
@@ -13,20 +13,29 @@ use super::fields;
 use super::operands;
 use super::rounding;
 
+// The significand of a, in the smaller one of the units of a's and b's significands.
+fn significand_beside(a: u16, b: u16) -> u64
+    ensures { λ r. ⌜ r ≡ significand a * 2 ^ (exponentField a - 1 - (exponentField b - 1)) ⌝ }
+{
+    let i = fields::lift_of(a);
+    let j = fields::lift_of(b);
+    let s = fields::significand_of(a);
+    if i < j { s } else { s << (i - j) }
+}
+
 // The place of x / y among the multiples of 2^-26.
 fn quotient_place(x: u64, y: u64) -> u64
-    requires { ⌜ (x < 2 ^ 40) × (y < 2 ^ 40) × (0 < y) × (x < y * 2 ^ 20) ⌝ }
+    requires { ⌜ (x < 2 ^ 37) × (0 < y) ⌝ }
     ensures { λ r. ⌜ r ≡ place (x * 2 ^ 26) y ⌝ }
 {
-    let n = x * 0x100_0000;
-    let rest = n % y * 4;
-    let w = n / y * 4 + rest / y;
-    if rest % y == 0 { w * 2 } else { w * 2 + 1 }
+    let n = x * 0x400_0000;
+    let w = n / y * 2;
+    if n % y == 0 { w } else { w + 1 }
 }
 
 // x / y rounded. From 2^20 on it overflows.
 fn finite_quotient(mode: Mode, unmasked: bool, neg: bool, x: u64, y: u64) -> Outcome
-    requires { ⌜ (x < 2 ^ 40) × (y < 2 ^ 40) × (0 < y) ⌝ }
+    requires { ⌜ (min x y < 2 ^ 11) × (0 < y) ⌝ }
     ensures { λ r. ⌜ r ≡ roundedHalf mode unmasked neg (fraction x y) ⌝ }
 {
     if y <= x >> 20 {
@@ -75,8 +84,8 @@ pub fn divide(mode: Mode, unmasked: bool, a: u16, b: u16) -> Outcome
         return special_quotient(a, b);
     }
     let neg = operands::unlike_signs(a, b);
-    let x = fields::magnitude(a);
-    let y = fields::magnitude(b);
+    let x = significand_beside(a, b);
+    let y = significand_beside(b, a);
     let o = finite_quotient(mode, unmasked, neg, x, y);
     operands::with_flags(operands::denormal_flag(a, b, b), o)
 }

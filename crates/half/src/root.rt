@@ -1,9 +1,9 @@
 // Square root.
 ghost use mathlib.Core.Path.{_≡_};
-ghost use Prim.Native.Nat.{_-_, _/_, _<_, _^_};
-ghost use mathlib.Core.Bool.{true, false};
+ghost use Prim.Native.Nat.{_+_, _-_, _*_, _/_, _<_, _^_};
+ghost use mathlib.Core.Bool.{Bool, true, false, not, _&&_};
 ghost use lib.Ieee.{size};
-ghost use Rattle.half.specs.Format.{isFinite, isZero, units};
+ghost use Rattle.half.specs.Format.{isFinite, isZero, negative, units};
 ghost use Rattle.half.specs.Exact.{rootFrom, rootOf};
 ghost use Rattle.half.specs.Round.{roundedHalf};
 ghost use Rattle.half.specs.Operations.{halfRoot};
@@ -14,24 +14,44 @@ use super::fields;
 use super::operands;
 use super::rounding;
 
-// Near the root of n, for an n of 25 or 26 digits: a line for each. That it is above 0 is all that is relied on.
+fn start(long: bool) -> u64
+    ensures { λ r. ⌜ (0 < r) × (r < 2 ^ 12) ⌝ }
+{
+    if long { 3445 } else { 2435 }
+}
+
+fn rise(long: bool, n: u64) -> u64
+    requires { ⌜ n < 2 ^ 26 ⌝ }
+    ensures { λ r. ⌜ r < 2 ^ 38 ⌝ }
+{
+    if long { n * 2399 } else { n * 3394 }
+}
+
+// Near the root of n, for an n of 25 or 26 digits: on a line for each. That it is above 0 is all that is relied on.
 fn guess(n: u64) -> u64
     requires { ⌜ n < 2 ^ 26 ⌝ }
     ensures { λ r. ⌜ (0 < r) × (r < 2 ^ 14) ⌝ }
 {
-    if n < 0x200_0000 {
-        return 2435 + n * 1697 / 0x100_0000;
-    }
-    3445 + n * 2399 / 0x200_0000
+    let long = 0x200_0000 <= n;
+    start(long) + rise(long, n) / 0x200_0000
 }
 
-// The largest number whose square is at most n. The mean of g and n / g is not below it, whatever g is, and close to it where g is.
+// s, or the number before it where the square of s is above n.
+fn one_down(n: u64, s: u64) -> u64
+    requires { ⌜ (s < 2 ^ 27) × (n < (s + 1) * (s + 1)) ⌝ }
+    ensures { λ r. ⌜ (r < 2 ^ 27) × (n < (r + 1) * (r + 1)) ⌝ }
+{
+    if n < s * s { s - 1 } else { s }
+}
+
+// The largest number whose square is at most n. The mean of g and n / g is not below it, whatever g is, and close to it where g is:
+// one_down finds it, with no branch to foresee, and the loop is there for an n that a guess is far from.
 fn integer_root(n: u64) -> u64
     requires { ⌜ n < 2 ^ 26 ⌝ }
     ensures { λ r. ⌜ r ≡ rootFrom 13 n 0 ⌝ }
 {
     let g = guess(n);
-    let mut s = (g + n / g) / 2;
+    let mut s = one_down(n, (g + n / g) / 2);
     while n < s * s {
         s -= 1;
     }
@@ -67,20 +87,30 @@ fn finite_root(mode: Mode, unmasked: bool, a: u16) -> Outcome
     rounding::round(mode, unmasked, false, t << (j + 2))
 }
 
-pub fn square_root(mode: Mode, unmasked: bool, a: u16) -> Outcome
-    ensures { λ r. ⌜ r ≡ halfRoot mode unmasked a ⌝ }
+// The root of a NaN, an infinity, a zero or a negative number, which turns on no mode.
+fn special_root(a: u16) -> Outcome
+    requires { ⌜ (isFinite a && (not (negative a) && not (isZero a))) ≡ false ⌝ }
+    ensures { λ r. ⌜ ((mode : Mode) (unmasked : Bool) → r ≡ halfRoot mode unmasked a) ⌝ }
 {
     if operands::any_nan(a, a, a) {
         return operands::nan_result(a, a, a);
     }
-    let zero = fields::zero(a);
-    if fields::sign_of(a) & !zero {
+    if fields::sign_of(a) & !fields::zero(a) {
         return operands::invalid_result();
     }
-    let de = operands::denormal_flag(a, a, a);
-    if zero | fields::infinite(a) {
-        return Outcome { half: a, flags: de };
+    Outcome {
+        half: a,
+        flags: operands::denormal_flag(a, a, a),
+    }
+}
+
+pub fn square_root(mode: Mode, unmasked: bool, a: u16) -> Outcome
+    ensures { λ r. ⌜ r ≡ halfRoot mode unmasked a ⌝ }
+{
+    let ordinary = fields::finite(a) & (!fields::sign_of(a) & !fields::zero(a));
+    if !ordinary {
+        return special_root(a);
     }
     let o = finite_root(mode, unmasked, a);
-    operands::with_flags(de, o)
+    operands::with_flags(operands::denormal_flag(a, a, a), o)
 }

@@ -117,17 +117,13 @@ fn dropped(t: u64) -> u32
     if zeros < 50 { 50 - zeros } else { 0 }
 }
 
-// t / 2^27 is tiny: 2^-14 is 8192 of these, and just below it the steps of 11 bits are 4.
+// t / 2^27 is tiny: 2^-14 is 8192 of these, and just below it the steps of 11 bits are 4, so what carries over an odd step into
+// the next leads from there to 2^-14.
 fn is_tiny(mode: Mode, neg: bool, t: u64) -> bool
     ensures { λ r. ⌜ r ≡ tiny mode neg (fraction t (2 ^ 27)) ⌝ }
 {
-    if t == 0 {
-        return false;
-    }
-    if 8192 <= t {
-        return false;
-    }
-    whole_steps(mode, neg, t) < 2048
+    let outward = leads_outward(mode, neg);
+    (t != 0) & (t < 8192 - carry(is_nearest(mode), outward, 1))
 }
 
 // t / 2^27 rounded.

@@ -3,7 +3,7 @@ ghost use mathlib.Core.Path.{_≡_};
 ghost use Prim.Native.Nat.{_<_, _≤_, _+_, _-_, _^_};
 ghost use mathlib.Core.Bool.{Bool, false, _&&_, cond};
 ghost use lib.Dec.{ltb};
-ghost use Rattle.half.specs.Format.{isFinite};
+ghost use Rattle.half.specs.Format.{isFinite, signed};
 ghost use Rattle.half.specs.Work.{place};
 ghost use Rattle.half.specs.Operations.{cancelled, exactSum, halfAdd, halfSubtract};
 use super::Mode;
@@ -24,18 +24,27 @@ fn cancelled_zero(mode: Mode) -> u16
     }
 }
 
-// The magnitude of ±x and ±y added.
+fn larger(x: u64, y: u64) -> u64
+    ensures { λ r. ⌜ r ≡ cond (ltb x y) y x ⌝ }
+{
+    if x < y { y } else { x }
+}
+
+fn smaller(x: u64, y: u64) -> u64
+    ensures { λ r. ⌜ r ≡ cond (ltb x y) x y ⌝ }
+{
+    if x < y { x } else { y }
+}
+
+// The magnitude of ±x and ±y added. By the larger and the smaller one, since the signs of operands are no branch that a processor
+// foresees.
 fn total(like: bool, x: u64, y: u64) -> u64
     requires { ⌜ x + y < 2 ^ 64 ⌝ }
     ensures { λ r. ⌜ r ≡ cond like (x + y) (cond (ltb x y) (y - x) (x - y)) ⌝ }
 {
-    if like {
-        return x + y;
-    }
-    if x < y {
-        return y - x;
-    }
-    x - y
+    let l = larger(x, y);
+    let s = smaller(x, y);
+    if like { l + s } else { l - s }
 }
 
 // The sign of the larger one.
@@ -56,6 +65,16 @@ fn place_of_sum(m: u64, k: u32) -> u64
     rounding::place_of(m, k)
 }
 
+// The zero that a sum is: of like signs it has theirs.
+fn zero_sum(mode: Mode, like: bool, neg: bool) -> u16
+    ensures { λ r. ⌜ r ≡ cond like (signed neg 0) (cancelled mode) ⌝ }
+{
+    if like {
+        return fields::with_sign(neg, 0);
+    }
+    cancelled_zero(mode)
+}
+
 // ±x / 2^(26 + k) and ±y / 2^(26 + k) added and rounded.
 pub fn finite_sum(mode: Mode, unmasked: bool, sx: bool, x: u64, sy: bool, y: u64, k: u32) -> Outcome
     requires { ⌜ (x + y < 2 ^ 64) × (1 ≤ k) × (k < 64) ⌝ }
@@ -63,9 +82,9 @@ pub fn finite_sum(mode: Mode, unmasked: bool, sx: bool, x: u64, sy: bool, y: u64
 {
     let like = sx == sy;
     let m = total(like, x, y);
-    if !like & (m == 0) {
+    if m == 0 {
         return Outcome {
-            half: cancelled_zero(mode),
+            half: zero_sum(mode, like, sx),
             flags: 0,
         };
     }

@@ -1,8 +1,8 @@
-use Rattle.half.proofs.Cases.{finite-divide, divisor-not-zero, dividend-finite, divisor-finite, ordinary}
+use Rattle.half.proofs.Cases.{finite-divide, divisor-not-zero, ordinary}
 use mathlib.Core.Path.{sym, _∙_}
 use borrow.Author.Tests.{not-false, not-true}
 use Rattle.half.proofs.Sums.{beside}
-use Rattle.half.proofs.Units.{finite-lt, units-pos}
+use Rattle.half.proofs.Quotients.{one-small, divisor-pos, quotient-units}
 use borrow.Author.Needs.{needs}
 use Rattle.half.proofs.quotient.divide.Statement.{statement}
 use Rattle.half.proofs.quotient.divide.Tie as tie
@@ -25,16 +25,16 @@ returns c = c .special-quotient .ensures _ _
 unlike-signs-requires : tie.Need-unlike-signs-requires
 unlike-signs-requires c κs = search needs
 
-magnitude-requires : tie.Need-magnitude-requires
-magnitude-requires c κs = search needs
+significand-beside-requires : tie.Need-significand-beside-requires
+significand-beside-requires c κs = search needs
 
-magnitude-requires-2 : tie.Need-magnitude-requires-2
-magnitude-requires-2 c κs = search needs
+significand-beside-requires-2 : tie.Need-significand-beside-requires-2
+significand-beside-requires-2 c κs = search needs
 
 finite-quotient-requires : tie.Need-finite-quotient-requires
 finite-quotient-requires c κs =
     let f = ordinary (c .before .before .before .before .before .before .before .args .a) (c .before .before .before .before .before .before .before .args .b) (c .before .before .before .before .before .before .finite .ensures) (c .before .before .before .before .before .finite2 .ensures) (c .before .before .before .before .zero .ensures) (not-false _ (c .before .before .before .if1 .left)) in
-    (rw (c .before .magnitude .ensures) (finite-lt (c .before .before .before .before .before .before .before .args .a) (dividend-finite (c .before .before .before .before .before .before .before .args .mode) (c .before .before .before .before .before .before .before .args .unmasked) (c .before .before .before .before .before .before .before .args .a) (c .before .before .before .before .before .before .before .args .b) f)), rw (c .magnitude2 .ensures) (finite-lt (c .before .before .before .before .before .before .before .args .b) (divisor-finite (c .before .before .before .before .before .before .before .args .mode) (c .before .before .before .before .before .before .before .args .unmasked) (c .before .before .before .before .before .before .before .args .a) (c .before .before .before .before .before .before .before .args .b) f)), rw (c .magnitude2 .ensures) (units-pos (c .before .before .before .before .before .before .before .args .b) (divisor-not-zero (c .before .before .before .before .before .before .before .args .mode) (c .before .before .before .before .before .before .before .args .unmasked) (c .before .before .before .before .before .before .before .args .a) (c .before .before .before .before .before .before .before .args .b) f)))
+    (one-small (c .before .before .before .before .before .before .before .args .a) (c .before .before .before .before .before .before .before .args .b) (c .before .significand-beside .ensures) (c .significand-beside2 .ensures), divisor-pos (c .before .before .before .before .before .before .before .args .a) (c .before .before .before .before .before .before .before .args .b) (c .before .significand-beside .ensures) (c .significand-beside2 .ensures) (divisor-not-zero (c .before .before .before .before .before .before .before .args .mode) (c .before .before .before .before .before .before .before .args .unmasked) (c .before .before .before .before .before .before .before .args .a) (c .before .before .before .before .before .before .before .args .b) f))
 
 denormal-flag-requires : tie.Need-denormal-flag-requires
 denormal-flag-requires c κs = search needs
@@ -44,8 +44,10 @@ with-flags-requires c κs = search needs
 
 returns-2 : tie.Need-returns-2
 returns-2 c =
-    beside (c .before .before .before .before .before .before .before .before .before .before .args .a) (c .before .before .before .before .before .before .before .before .before .before .args .b) (c .before .denormal-flag .ensures) (c .with-flags .ensures) (c .before .before .finite-quotient .ensures ∙ rw (c .before .before .before .before .before .unlike-signs .ensures, c .before .before .before .before .magnitude .ensures, c .before .before .before .magnitude2 .ensures))
-    ∙ sym (finite-divide _ _ (c .before .before .before .before .before .before .before .before .before .before .args .a) (c .before .before .before .before .before .before .before .before .before .before .args .b) (ordinary (c .before .before .before .before .before .before .before .before .before .before .args .a) (c .before .before .before .before .before .before .before .before .before .before .args .b) (c .before .before .before .before .before .before .before .before .before .finite .ensures) (c .before .before .before .before .before .before .before .before .finite2 .ensures) (c .before .before .before .before .before .before .before .zero .ensures) (not-false _ (c .before .before .before .before .before .before .if1 .left))))
+    let f = ordinary (c .before .before .before .before .before .before .before .before .before .before .args .a) (c .before .before .before .before .before .before .before .before .before .before .args .b) (c .before .before .before .before .before .before .before .before .before .finite .ensures) (c .before .before .before .before .before .before .before .before .finite2 .ensures) (c .before .before .before .before .before .before .before .zero .ensures) (not-false _ (c .before .before .before .before .before .before .if1 .left)) in
+    let q = quotient-units (c .before .before .before .before .before .before .before .before .before .before .args .a) (c .before .before .before .before .before .before .before .before .before .before .args .b) (c .before .before .before .before .significand-beside .ensures) (c .before .before .before .significand-beside2 .ensures) _ _ _ (divisor-not-zero (c .before .before .before .before .before .before .before .before .before .before .args .mode) (c .before .before .before .before .before .before .before .before .before .before .args .unmasked) (c .before .before .before .before .before .before .before .before .before .before .args .a) (c .before .before .before .before .before .before .before .before .before .before .args .b) f) (c .before .before .finite-quotient .ensures) in
+    beside (c .before .before .before .before .before .before .before .before .before .before .args .a) (c .before .before .before .before .before .before .before .before .before .before .args .b) (c .before .denormal-flag .ensures) (c .with-flags .ensures) (q ∙ rw (c .before .before .before .before .before .unlike-signs .ensures))
+    ∙ sym (finite-divide _ _ (c .before .before .before .before .before .before .before .before .before .before .args .a) (c .before .before .before .before .before .before .before .before .before .before .args .b) f)
 
 pub divide-spec : {M : Type 1} → statement M
 divide-spec =
@@ -57,8 +59,8 @@ divide-spec =
     special-quotient-requires
     returns
     unlike-signs-requires
-    magnitude-requires
-    magnitude-requires-2
+    significand-beside-requires
+    significand-beside-requires-2
     finite-quotient-requires
     denormal-flag-requires
     with-flags-requires

@@ -9,16 +9,16 @@ overflow-requires : tie.Need-overflow-requires
 overflow-requires c κs = search needs
 
 returns : tie.Need-returns
-returns c = c .overflow .ensures ∙ sym (far-too-large _ _ _ (c .before .before .args .x) (c .before .before .args .y) (c .before .before .pre .2) (c .before .if1 .taken))
+returns c = c .overflow .ensures ∙ sym (far-too-large _ _ _ (c .before .before .args .x) (c .before .before .args .y) (c .before .before .pre .1) (c .before .if1 .taken))
 
 quotient-place-requires : tie.Need-quotient-place-requires
-quotient-place-requires c κs = (c .before .pre .0, c .before .pre .1, c .before .pre .2, in-range (c .before .args .x) (c .before .args .y) (c .if1 .left))
+quotient-place-requires c κs = (in-range (c .before .args .x) (c .before .args .y) (c .if1 .left) (c .before .pre .0), c .before .pre .1)
 
 round-requires : tie.Need-round-requires
 round-requires c κs = search needs
 
 returns-2 : tie.Need-returns-2
-returns-2 c = placed-fraction _ _ _ (c .before .before .before .args .x) (c .before .before .before .args .y) (c .before .before .before .pre .2) (c .before .quotient-place .ensures) (c .round .ensures)
+returns-2 c = placed-fraction _ _ _ (c .before .before .before .args .x) (c .before .before .before .args .y) (c .before .before .before .pre .1) (c .before .quotient-place .ensures) (c .round .ensures)
 
 pub finite-quotient-spec : {M : Type 1} → statement M
 finite-quotient-spec =

@@ -1,19 +1,25 @@
-use Rattle.half.proofs.Steps.{zero-not-tiny, large-not-tiny, tiny-steps}
+use native.Mathlib.Omega.{arith}
+use Rattle.half.proofs.Steps.{carry-le, tiny-below}
 use borrow.Author.Needs.{needs}
 use Rattle.half.proofs.rounding.is_tiny.Statement.{statement}
 use Rattle.half.proofs.rounding.is_tiny.Tie as tie
 
+leads-outward-requires : tie.Need-leads-outward-requires
+leads-outward-requires c κs = search needs
+
+is-nearest-requires : tie.Need-is-nearest-requires
+is-nearest-requires c κs = search needs
+
+carry-requires : tie.Need-carry-requires
+carry-requires c κs = search needs
+
+sub-result : tie.Need-sub-result
+sub-result c = omega (arith, c .carry .ensures, carry-le (c .before .is-nearest .result) (c .before .before .leads-outward .result) 1 (omega arith))
+
 returns : tie.Need-returns
-returns c = zero-not-tiny _ _ _ (c .if1 .taken)
-
-returns-2 : tie.Need-returns-2
-returns-2 c = large-not-tiny _ _ _ (c .if2 .taken)
-
-whole-steps-requires : tie.Need-whole-steps-requires
-whole-steps-requires c κs = search needs
-
-returns-3 : tie.Need-returns-3
-returns-3 c = tiny-steps _ _ _ (c .before .before .if1 .left) (c .whole-steps .ensures)
+returns c = tiny-below (c .before .before .before .args .mode) (c .before .before .before .args .neg) (c .before .before .before .args .t) (c .before .is-nearest .ensures) (c .before .before .leads-outward .ensures) (c .carry .ensures)
 
 pub is-tiny-spec : {M : Type 1} → statement M
-is-tiny-spec = tie.close (tie.spec returns returns-2 whole-steps-requires returns-3)
+is-tiny-spec =
+    tie.close
+    (tie.spec leads-outward-requires is-nearest-requires carry-requires sub-result returns)

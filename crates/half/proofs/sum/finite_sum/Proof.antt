@@ -1,4 +1,4 @@
-use Rattle.half.proofs.Sums.{cancel, summed}
+use Rattle.half.proofs.Sums.{no-sum, summed}
 use borrow.Author.Needs.{needs}
 use Rattle.half.proofs.sum.finite_sum.Statement.{statement}
 use Rattle.half.proofs.sum.finite_sum.Tie as tie
@@ -6,11 +6,11 @@ use Rattle.half.proofs.sum.finite_sum.Tie as tie
 total-requires : tie.Need-total-requires
 total-requires c κs = search needs
 
-cancelled-zero-requires : tie.Need-cancelled-zero-requires
-cancelled-zero-requires c κs = search needs
+zero-sum-requires : tie.Need-zero-sum-requires
+zero-sum-requires c κs = search needs
 
 returns : tie.Need-returns
-returns c = cancel _ _ _ _ _ _ _ (c .before .before .total .ensures) (c .before .if1 .taken) (c .cancelled-zero .ensures)
+returns c = no-sum _ _ _ _ _ _ _ (c .before .before .total .ensures) (c .before .if1 .taken) (c .zero-sum .ensures)
 
 sign-of-larger-requires : tie.Need-sign-of-larger-requires
 sign-of-larger-requires c κs = search needs
@@ -29,7 +29,7 @@ finite-sum-spec =
     tie.close
     (tie.spec
     total-requires
-    cancelled-zero-requires
+    zero-sum-requires
     returns
     sign-of-larger-requires
     place-of-sum-requires

@@ -1,22 +1,27 @@
-use borrow.Author.Tests.{lt-ltb, le-ltb}
+use native.Mathlib.Omega.{arith}
+use Rattle.half.proofs.Sums.{both}
 use borrow.Author.Needs.{needs}
 use Rattle.half.proofs.sum.total.Statement.{statement}
 use Rattle.half.proofs.sum.total.Tie as tie
 
-add-result : tie.Need-add-result
-add-result c = search needs
+larger-requires : tie.Need-larger-requires
+larger-requires c κs = search needs
 
-returns : tie.Need-returns
-returns c = rw (c .if1 .taken)
+smaller-requires : tie.Need-smaller-requires
+smaller-requires c κs = search needs
+
+add-result : tie.Need-add-result
+add-result c = omega (arith, both (c .before .before .before .args .x) (c .before .before .before .args .y) (c .before .before .larger .ensures) (c .before .smaller .ensures))
 
 sub-result : tie.Need-sub-result
-sub-result c = search needs
+sub-result c = omega (arith, both (c .before .before .before .args .x) (c .before .before .before .args .y) (c .before .before .larger .ensures) (c .before .smaller .ensures))
+
+returns : tie.Need-returns
+returns c = rw (c .if1 .taken) (both (c .before .before .before .args .x) (c .before .before .before .args .y) (c .before .before .larger .ensures) (c .before .smaller .ensures) .1)
 
 returns-2 : tie.Need-returns-2
-returns-2 c = rw (c .before .if1 .left, lt-ltb _ _ (c .if2 .taken))
-
-returns-3 : tie.Need-returns-3
-returns-3 c = rw (c .before .if1 .left, le-ltb _ _ (c .if2 .left))
+returns-2 c = rw (c .if1 .left) (both (c .before .before .before .args .x) (c .before .before .before .args .y) (c .before .before .larger .ensures) (c .before .smaller .ensures) .2)
 
 pub total-spec : {M : Type 1} → statement M
-total-spec = tie.close (tie.spec add-result returns sub-result returns-2 returns-3)
+total-spec =
+    tie.close (tie.spec larger-requires smaller-requires add-result sub-result returns returns-2)
