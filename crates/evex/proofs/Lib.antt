@@ -4,4 +4,5 @@ pub mod Search
 pub mod Order
 pub mod Answer
 pub mod Bounds
+pub mod After
 pub mod Examples

@@ -13,7 +13,7 @@ use Rattle.evex.specs.Decode.{noBytes, wrongFirstByte, fewerThanSixBytes
 use Rattle.evex.specs.declared.head.Head.{Head}
 use Rattle.evex.specs.declared.list.Row.{Row}
 use Rattle.evex.specs.declared.list.Listed.the-variants.{Found, Nothing}
-use Rattle.evex.specs.declared.Refusal.the-variants.{Cut, Unlisted, Reserved, TooLong}
+use Rattle.evex.specs.declared.Refusal.the-variants.{Incomplete, Unlisted, Reserved, TooLong}
 use Rattle.evex.specs.declared.Decoded.{Decoded}
 use Rattle.evex.specs.declared.Decoded.the-variants.{Fields, Refused}
 
@@ -41,7 +41,7 @@ pub record Rowed (code : List ℕ) (h : Head) (row : Row) : Type 0 where
 -- ---- the first three conditions
 
 module _ (code : List ℕ) where
-  pub no-bytes : length code ≡ 0 → Refused Cut ≡ decoded code
+  pub no-bytes : length code ≡ 0 → Refused Incomplete ≡ decoded code
   unfolding decoded refusals noBytes
   no-bytes e = rw e
 
@@ -49,7 +49,7 @@ module _ (code : List ℕ) where
   unfolding decoded refusals noBytes wrongFirstByte
   first-byte some n = rw (ne-eqb (length code) 0 some, ne-eqb (byte code 0) 0x62 n)
 
-  pub few-bytes : (length code ≡ 0 → ⊥) → byte code 0 ≡ 0x62 → length code < 6 → Refused Cut ≡ decoded code
+  pub few-bytes : (length code ≡ 0 → ⊥) → byte code 0 ≡ 0x62 → length code < 6 → Refused Incomplete ≡ decoded code
   unfolding decoded refusals noBytes wrongFirstByte fewerThanSixBytes
   few-bytes some evex s = rw (ne-eqb (length code) 0 some, evex, lt-ltb (length code) 6 s)
 
@@ -70,7 +70,7 @@ of-three false false c x y = refl
 -- the last two conditions, and the fields
 abbrev ending : List ℕ → Head → Row → Decoded
 ending code h row =
-    firstOf ((bytesMissing h code, Refused Cut) ∷ (longerThanFifteenBytes h, Refused TooLong) ∷ [])
+    firstOf ((bytesMissing h code, Refused Incomplete) ∷ (longerThanFifteenBytes h, Refused TooLong) ∷ [])
     (Fields (instruction h row (displacementOf h code)))
 
 module _ {code : List ℕ} {h : Head} where
@@ -93,7 +93,7 @@ module _ {code : List ℕ} {h : Head} where
     reserved g found t = rw (← after-list g found, t)
 
     module _ (g : Rowed code h row) {n : ℕ} (e : n ≡ size h) where
-      pub missing : length code < n → Refused Cut ≡ decoded code
+      pub missing : length code < n → Refused Incomplete ≡ decoded code
       unfolding bytesMissing
       missing s = rw (← after-list (g .headed) (g .found), g .plain, ← e, lt-ltb (length code) n s)
 

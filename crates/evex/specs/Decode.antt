@@ -12,14 +12,14 @@ use Rattle.evex.specs.declared.head.Head.{Head}
 use Rattle.evex.specs.declared.list.Listed.{Listed}
 use Rattle.evex.specs.declared.list.Listed.the-variants.{Found, Nothing}
 use Rattle.evex.specs.declared.Refusal.{Refusal}
-use Rattle.evex.specs.declared.Refusal.the-variants.{Cut, Unlisted, Reserved, TooLong}
+use Rattle.evex.specs.declared.Refusal.the-variants.{Incomplete, Unlisted, Reserved, TooLong}
 use Rattle.evex.specs.declared.Decoded.{Decoded}
 use Rattle.evex.specs.declared.Decoded.the-variants.{Fields, Refused}
 
 -- 01, Numbers: the table. 3: bytes end inside the instruction; 4: byte 0 not 62, or not in the list; 5: reserved encoding; 6: instruction longer
 -- than 15 bytes.
 abbrev pub numberOf : Refusal → ℕ
-numberOf Cut = 3
+numberOf Incomplete = 3
 numberOf Unlisted = 4
 numberOf Reserved = 5
 numberOf TooLong = 6
@@ -72,15 +72,15 @@ longerThanFifteenBytes h = ltb 15 (size h)
 unfoldable pub refusals : List ℕ → List (Bool × Refusal)
 refusals code =
     let h : Head = headOf code in
-    (noBytes code, Cut)
+    (noBytes code, Incomplete)
     ∷ (wrongFirstByte code, Unlisted)
-    ∷ (fewerThanSixBytes code, Cut)
+    ∷ (fewerThanSixBytes code, Incomplete)
     ∷ (wrongFixedBits h, Reserved)
     ∷ (notInList (listed h), Unlisted)
     ∷ (reservedLength h, Reserved)
     ∷ (zeroingWithoutMask h, Reserved)
     ∷ (extraSource h (listed h), Reserved)
-    ∷ (bytesMissing h code, Cut)
+    ∷ (bytesMissing h code, Incomplete)
     ∷ (longerThanFifteenBytes h, TooLong)
     ∷ []
 

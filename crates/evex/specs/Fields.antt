@@ -128,7 +128,7 @@ module _ (h : Head) where
   unfoldable pub baseBits : ℕ
   baseBits = cond hasSib (bits (h .sib) 0 3) rm
 
-  -- 01, Fields, memory: index 100 with X stored as one means no index. X extends the index.
+  -- 01, Fields, memory: index 100 with X stored as one means no index. X extends the index; where there is none it is not read.
   abbrev pub indexNumber : ℕ
   indexNumber = X * 8 + bits (h .sib) 3 3
 
@@ -136,7 +136,7 @@ module _ (h : Head) where
   indexOf = cond (hasSib && not (eqb indexNumber 4)) (index.Scaled indexNumber (bits (h .sib) 6 2)) index.None
 
   -- 01, Fields, memory: base 101 with mod 0 means no base and a 32-bit displacement; rm 101 with mod 0 is a 32-bit displacement relative to
-  -- the next instruction. B extends the base.
+  -- the next instruction. B extends the base; where there is none it is not read.
   unfoldable pub noBase : Bool
   noBase = eqb modBits 0 && eqb baseBits 5
 

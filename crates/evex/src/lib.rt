@@ -71,7 +71,7 @@ pub struct Instruction {
 
 // Why bytes are refused: they end inside the instruction; they are not in the list; reserved encoding; more than 15 bytes.
 pub enum Refusal {
-    Cut,
+    Incomplete,
     Unlisted,
     Reserved,
     TooLong,
@@ -88,7 +88,7 @@ impl Refusal {
         ensures { λ r. ⌜ r ≡ numberOf self ⌝ }
     {
         match self {
-            Refusal::Cut => 3,
+            Refusal::Incomplete => 3,
             Refusal::Unlisted => 4,
             Refusal::Reserved => 5,
             Refusal::TooLong => 6,
@@ -101,13 +101,13 @@ pub fn decode(code: &[u8]) -> Decoded
     ensures { λ r. ⌜ r ≡ decoded (now (code .entry)) ⌝ }
 {
     if code.len() == 0 {
-        return Decoded::Refused(Refusal::Cut);
+        return Decoded::Refused(Refusal::Incomplete);
     }
     if code[0] != 0x62 {
         return Decoded::Refused(Refusal::Unlisted);
     }
     if code.len() < 6 {
-        return Decoded::Refused(Refusal::Cut);
+        return Decoded::Refused(Refusal::Incomplete);
     }
     let head = Head::of(code);
     if head.has_wrong_fixed_bits() {
@@ -121,7 +121,7 @@ pub fn decode(code: &[u8]) -> Decoded
     }
     let size = head.size();
     if code.len() < size {
-        return Decoded::Refused(Refusal::Cut);
+        return Decoded::Refused(Refusal::Incomplete);
     }
     if 15 < size {
         return Decoded::Refused(Refusal::TooLong);

@@ -13,4 +13,3 @@ pub mod Special
 pub mod Sums
 pub mod Quotients
 pub mod Answers
-pub mod Rows

@@ -22,7 +22,7 @@ modeOf n =
 abbrev pub yes : ℕ → Bool
 yes n = not (eqb n 0)
 
--- 01, Numbers the engine gets back: 0, and 9 "rounding mode above 3; the half returned is 0000, no flags"
+-- 01, Numbers the engine gets back: 0, and 9 "rounding mode above 3 (arithmetic alone); the half returned is 0000, no flags"
 unfoldable pub answered : ModeNumber → (Mode → Outcome) → Rounded
 answered (Means m) f = record { half = (f m) .half; flags = (f m) .flags; number = 0 }
 answered Above f = record { half = 0x0000; flags = 0; number = 9 }

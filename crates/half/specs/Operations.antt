@@ -17,18 +17,19 @@ abbrev pub some : (ℕ → Bool) → List ℕ → Bool
 some p [] = false
 some p (h ∷ hs) = p h || some p hs
 
+-- "Operand order is as written": the list's
 abbrev pub firstNan : List ℕ → ℕ
 firstNan [] = 0
 firstNan (h ∷ hs) = cond (isNan h) h (firstNan hs)
 
--- 1. "A NaN operand: the result is the first NaN operand, made quiet. IE exactly if some operand is signalling."
+-- 1. "A NaN operand: the result is the first NaN operand, made quiet by setting fraction bit 9." "IE exactly if some operand is signalling."
 abbrev pub nanResult : List ℕ → Outcome
 nanResult hs = result (quiet (firstNan hs)) (flag IE (some isSignalling hs))
 
 abbrev pub unlessNan : List ℕ → Outcome → Outcome
 unlessNan hs o = cond (some isNan hs) (nanResult hs) o
 
--- 2. "Invalid: FE00 and IE."
+-- 2. "Invalid (..): FE00 and IE."
 abbrev pub invalid : Outcome
 invalid = result 0xFE00 IE
 
@@ -44,7 +45,7 @@ exactly h = result h 0
 abbrev pub unlike : ℕ → ℕ → Bool
 unlike a b = not (Bool·beq (negative a) (negative b))
 
--- "A zero sum of unlike signs is +0, or -0 in mode 1"
+-- "A zero sum of unlike signs is +0, or -0 in mode 1, also where a fused form cancels exactly"
 abbrev pub cancelled : Mode → ℕ
 cancelled Nearest = 0x0000
 cancelled Down = 0x8000
@@ -75,7 +76,7 @@ halfAdd mode unmasked a b =
 unfoldable pub halfSubtract : Mode → Bool → ℕ → ℕ → Outcome
 halfSubtract mode unmasked a b = unlessNan (a ∷ b ∷ []) (halfAdd mode unmasked a (negated b))
 
--- invalid: 0 times infinity. "The sign of a product or quotient is minus exactly when the operands' signs differ."
+-- invalid: 0 times infinity. "The sign of a product or quotient, zero or not, is minus exactly when the operands' signs differ".
 unfoldable pub halfMultiply : Mode → Bool → ℕ → ℕ → Outcome
 halfMultiply mode unmasked a b =
     unlessNan (a ∷ b ∷ [])

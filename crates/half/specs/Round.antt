@@ -81,6 +81,7 @@ encode n = let s = size n - 11 in s * 1024 + n / 2 ^ s
 abbrev pub overflowFields : Mode → Bool → ℕ
 overflowFields mode neg = cond (isNearest mode || outward mode neg) 0x7C00 0x7BFF
 
+-- the half of this sign: "a non-zero value rounded to zero keeps its sign"
 unfoldable pub roundedHalf : Mode → Bool → Bool → Magnitude → Outcome
 roundedHalf mode unmasked neg x =
     -- "OE and PE, and infinity or 7BFF/FBFF by mode."

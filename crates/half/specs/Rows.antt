@@ -1,17 +1,17 @@
--- 01, Lanes and bytes to try: the starred rows, one table and one statement over it. The machine shows the same table through a step.
+-- 01, Lanes and bytes to try: the starred rows, one table. The statement over it, by these definitions and by a step, is the machine's
+-- (crate machine, specs/Rows.antt).
 use Prim.Native.Nat.{ℕ}
 use mathlib.Core.Bool.{Bool, true, false}
-use mathlib.Core.List.{List, [], _∷_, map}
-use mathlib.Core.Path.{_≡_}
+use mathlib.Core.List.{List, [], _∷_}
 use lib.Bits.{bitOr}
 use Rattle.half.specs.Round.{IE, DE, ZE, OE, UE, PE, result}
-use Rattle.half.specs.Operations.{halfAdd, halfSubtract, halfMultiply, halfDivide, halfRoot, halfMultiplyAdd}
+use Rattle.half.specs.Operations.{halfAdd, halfMultiply, halfDivide, halfRoot, halfMultiplyAdd}
 use Rattle.half.specs.declared.Mode.{Mode}
 use Rattle.half.specs.declared.Mode.the-variants.{Nearest, Down, Up, TowardZero}
 use Rattle.half.specs.declared.Outcome.{Outcome}
 
 pub data Operation : Type 0 where
-  plus minus times over root fused : Operation
+  plus times over root fused : Operation
 
 -- operands that an operation does not have are 0
 pub record Row : Type 0 where
@@ -55,12 +55,7 @@ outcomeOf r = go (r .op)
   where
     go : Operation → Outcome
     go plus = halfAdd (r .mode) (r .unmasked) (r .a) (r .b)
-    go minus = halfSubtract (r .mode) (r .unmasked) (r .a) (r .b)
     go times = halfMultiply (r .mode) (r .unmasked) (r .a) (r .b)
     go over = halfDivide (r .mode) (r .unmasked) (r .a) (r .b)
     go root = halfRoot (r .mode) (r .unmasked) (r .a)
     go fused = halfMultiplyAdd (r .mode) (r .unmasked) (r .a) (r .b) (r .c)
-
--- Every starred row is what the definitions give; proved in proofs/Rows.antt.
-abbrev pub StarredRows : Type 0
-StarredRows = map outcomeOf starred ≡ map (λ (r : Row). r .gives) starred

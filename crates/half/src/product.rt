@@ -25,7 +25,7 @@ fn product_scale(a: u16, b: u16) -> i32
     fields::scale_of(a) + fields::scale_of(b) + 26
 }
 
-pub fn scaled_product(a: u16, b: u16) -> Product
+pub(crate) fn scaled_product(a: u16, b: u16) -> Product
     ensures { λ r. ⌜ Scaled a b r ⌝ }
 {
     let p = fields::significand_of(a) * fields::significand_of(b);
@@ -56,7 +56,7 @@ fn product_place(a: u16, b: u16) -> u64
 }
 
 // The product of a zero and an infinity.
-pub fn zero_times_infinity(a: u16, b: u16) -> bool
+pub(crate) fn zero_times_infinity(a: u16, b: u16) -> bool
     ensures { λ r. ⌜ r ≡ (isZero a && isInfinite b || isInfinite a && isZero b) ⌝ }
 {
     (fields::zero(a) & fields::infinite(b)) | (fields::infinite(a) & fields::zero(b))

@@ -76,7 +76,15 @@ fn zero_sum(mode: Mode, like: bool, neg: bool) -> u16
 }
 
 // ±x / 2^(26 + k) and ±y / 2^(26 + k) added and rounded.
-pub fn finite_sum(mode: Mode, unmasked: bool, sx: bool, x: u64, sy: bool, y: u64, k: u32) -> Outcome
+pub(crate) fn finite_sum(
+    mode: Mode,
+    unmasked: bool,
+    sx: bool,
+    x: u64,
+    sy: bool,
+    y: u64,
+    k: u32,
+) -> Outcome
     requires { ⌜ (x + y < 2 ^ 64) × (1 ≤ k) × (k < 64) ⌝ }
     ensures { λ r. ⌜ r ≡ exactSum mode unmasked sx x sy y (2 ^ (k + 26)) ⌝ }
 {

@@ -2,7 +2,7 @@
 -- what is left is read off the two ways in which a step ends.
 -- Assumes nothing.
 use Prim.Native.Nat.{ℕ, suc, _<_}
-use mathlib.Core.Path.{_≡_, refl, sym}
+use mathlib.Core.Path.{_≡_, refl, sym, _∙_}
 use mathlib.Core.Logic.{_≢_}
 use mathlib.Core.Bool.{Bool, true, false, cond}
 use mathlib.Core.List.{List, [], _∷_, _++_}
@@ -10,36 +10,24 @@ use native.Mathlib.Omega.{arith}
 use borrow.Author.Tests.{eqb-true}
 use lib.Bits.{bitOr, or-zero-r}
 use lib.Dec.{eqb, lit≤}
-use lib.ListN.{length}
-use Rattle.evex.specs.Decode.{numberOf, refusals, decoded}
+use lib.ListN.{length, take}
+use Rattle.evex.specs.Decode.{decoded}
 use Rattle.evex.specs.declared.Instruction.{Instruction}
 use Rattle.evex.specs.declared.Rounding.{Rounding}
 use Rattle.evex.specs.declared.Rounding.the-variants.{Control, Embedded}
-use Rattle.evex.specs.declared.Refusal.{Refusal}
-use Rattle.evex.specs.declared.Refusal.the-variants.{Cut, Unlisted, Reserved, TooLong}
 use Rattle.evex.specs.declared.Decoded.{Decoded}
 use Rattle.evex.specs.declared.Decoded.the-variants.{Fields, Refused}
-use Rattle.evex.proofs.Answer as evex
+use Rattle.evex.proofs.After.{after}
 use Rattle.machine.specs.State.{State, Stepped}
 use Rattle.machine.specs.Memory.{needsOutside}
 use Rattle.machine.specs.Lanes.{gathered, raisesUnmasked, recorded, controlAfter}
 use Rattle.machine.specs.Step.{ofFields, beforeSeven, conditions, answerOf, refused, stopped, completed, step}
-use Rattle.machine.specs.Answers.{InOrder, Leaves, Answers}
+use Rattle.machine.specs.Answers.{InOrder, Leaves, Answers, BytesAfter}
 use Rattle.machine.proofs.First.{NonZero, in-order}
-use Rattle.machine.proofs.Ends.{Way, early, fields, way, step-early, step-decoded}
+use Rattle.machine.proofs.Ends.{before-non-zero, by-decoded, Way, early, fields, way, step-early, step-decoded}
 use Rattle.machine.proofs.Flags.{raised-below}
 
 -- ---- the order
-
-number-of : (r : Refusal) → numberOf r ≢ 0
-number-of Cut e = omega arith
-number-of Unlisted e = omega arith
-number-of Reserved e = omega arith
-number-of TooLong e = omega arith
-
-non-zero-numbered : (cs : List (Bool × Refusal)) → NonZero (evex.numbered cs)
-non-zero-numbered [] = tt
-non-zero-numbered (c ∷ cs) = (number-of (c .1), non-zero-numbered cs)
 
 non-zero-append : (cs ds : List (Bool × ℕ)) → NonZero cs → NonZero ds → NonZero (cs ++ ds)
 non-zero-append [] ds h k = k
@@ -47,10 +35,8 @@ non-zero-append (c ∷ cs) ds h k = (h .0, non-zero-append cs ds (h .1) k)
 
 module _ (memory : List ℕ) (s : State) (code : List ℕ) where
   non-zero : NonZero (conditions memory s code)
-  unfolding conditions beforeSeven
-  non-zero =
-      non-zero-append (beforeSeven s code) _ ((λ e. omega arith), ((λ e. omega arith), non-zero-numbered (refusals code)))
-      ((λ e. omega arith), ((λ e. omega arith), tt))
+  unfolding conditions
+  non-zero = non-zero-append (beforeSeven s code) _ (before-non-zero s code) ((λ e. omega arith), ((λ e. omega arith), tt))
 
   -- the number that a step returns is that of the conditions
   number-is : step memory s code .answer .number ≡ answerOf memory s code
@@ -114,3 +100,6 @@ module _ (memory : List ℕ) (s : State) where
 
 pub answers : Answers
 answers memory s code = (order memory s code, leaves memory s code)
+
+pub bytes-after : BytesAfter
+bytes-after memory s code rest i e = by-decoded memory s code (take (i .size) code ++ rest) (after code rest e ∙ sym e)

@@ -3,17 +3,18 @@
 -- Assumes nothing.
 use Prim.Native.Nat.{ℕ, suc, _≤_, _<_, _^_}
 use mathlib.Core.Path.{_≡_, refl, _∙_}
+use mathlib.Core.Logic.{_≢_}
 use mathlib.Core.Bool.{Bool, true, false, cond}
-use mathlib.Core.List.{List}
+use mathlib.Core.List.{List, [], _∷_}
 use native.Mathlib.Omega.{arith}
 use borrow.Author.Tests.{eq-eqb, ne-eqb, le-leb, lt-leb, eqb-true, leb-false, not-false}
 use lib.Dec.{eqb, lit≤}
 use lib.ListN.{length}
-use Rattle.evex.specs.First.{firstOf}
-use Rattle.evex.specs.Decode.{numberOf, decoded}
+use Rattle.evex.specs.First.{firstOf, NoneHolds}
+use Rattle.evex.specs.Decode.{numberOf, refusals, decoded}
 use Rattle.evex.specs.declared.Instruction.{Instruction}
 use Rattle.evex.specs.declared.Refusal.{Refusal}
-use Rattle.evex.specs.declared.Refusal.the-variants.{Cut, Unlisted, Reserved, TooLong}
+use Rattle.evex.specs.declared.Refusal.the-variants.{Incomplete, Unlisted, Reserved, TooLong}
 use Rattle.evex.specs.declared.Decoded.{Decoded}
 use Rattle.evex.specs.declared.Decoded.the-variants.{Fields, Refused}
 use Rattle.evex.proofs.Answer as evex
@@ -22,7 +23,7 @@ use Rattle.machine.specs.Memory.{needsOutside}
 use Rattle.machine.specs.Lanes.{gathered, raisesUnmasked}
 use Rattle.machine.specs.Step.{ofFields, wrongVectorFile, highControlBit, outsideMemory, unmaskedException, beforeSeven, conditions, answerOf, refused, stopped, completed, step}
 use Rattle.machine.specs.TwoRuns.{IsDecoded}
-use Rattle.machine.proofs.First.{first-append, first-found}
+use Rattle.machine.proofs.First.{NonZero, first-append, first-found, holds-none}
 
 -- ---- the tests of 1 and 2
 
@@ -92,6 +93,28 @@ module _ (memory : List ℕ) (s : State) (code : List ℕ) where
           unfolding step outsideMemory unmaskedException
           completes t = rw (further, fields, inside, t)
 
+-- ---- a step turns on what is decoded alone
+
+pub by-decoded : (memory : List ℕ) (s : State) (code other : List ℕ) → decoded other ≡ decoded code → step memory s other ≡ step memory s code
+unfolding step
+by-decoded memory s code other e = rw (answer memory s other, answer memory s code, before s other, before s code, e)
+
+-- ---- every number is one of 1 to 6
+
+number-of : (r : Refusal) → numberOf r ≢ 0
+number-of Incomplete e = omega arith
+number-of Unlisted e = omega arith
+number-of Reserved e = omega arith
+number-of TooLong e = omega arith
+
+numbered-non-zero : (cs : List (Bool × Refusal)) → NonZero (evex.numbered cs)
+numbered-non-zero [] = tt
+numbered-non-zero (c ∷ cs) = (number-of (c .1), numbered-non-zero cs)
+
+pub before-non-zero : (s : State) (code : List ℕ) → NonZero (beforeSeven s code)
+unfolding beforeSeven
+before-non-zero s code = ((λ e. omega arith), ((λ e. omega arith), numbered-non-zero (refusals code)))
+
 -- ---- the two ways
 
 pub data Way (s : State) (code : List ℕ) : Type 0 where
@@ -102,7 +125,7 @@ pub way : (s : State) (code : List ℕ) → Way s code
 way s code = go (wrongVectorFile s) (highControlBit s) (decoded code) refl refl refl
   where
     refusal : (r : Refusal) → firstOf (beforeSeven s code) 0 ≡ numberOf r → Way s code
-    refusal Cut e = early 2 e (lit≤ tt)
+    refusal Incomplete e = early 2 e (lit≤ tt)
     refusal Unlisted e = early 3 e (lit≤ tt)
     refusal Reserved e = early 4 e (lit≤ tt)
     refusal TooLong e = early 5 e (lit≤ tt)
@@ -111,24 +134,16 @@ way s code = go (wrongVectorFile s) (highControlBit s) (decoded code) refl refl 
     go true c d e f g = early 0 (rw (before s code, e)) (lit≤ tt)
     go false true d e f g = early 1 (rw (before s code, e, f)) (lit≤ tt)
     go false false (Refused r) e f g = refusal r (rw (before s code, e, f, g))
-    go false false (Fields i) e f g = fields i (rw (before s code, e, f, g), g)
+    go false false (Fields i) e f g = fields i (holds-none (beforeSeven s code) (before-non-zero s code) (rw (before s code, e, f, g)), g)
 
 -- of what is decoded neither 1 nor 2 is given
-passes-tests : (s : State) (code : List ℕ) → firstOf (beforeSeven s code) 0 ≡ 0 → (wrongVectorFile s ≡ false) × (highControlBit s ≡ false)
-passes-tests s code e = go (wrongVectorFile s) (highControlBit s) (rw (before s code) at e)
-  where
-    go : (v c : Bool) → cond v 1 (cond c 2 (evex.numberOr 0 (decoded code))) ≡ 0 → (v ≡ false) × (c ≡ false)
-    go true c e = absurd (omega arith)
-    go false true e = absurd (omega arith)
-    go false false e = (refl, refl)
+pub decoded-size : (s : State) (code : List ℕ) → NoneHolds (beforeSeven s code) → length (s .vectors) ≡ 2048
+unfolding beforeSeven wrongVectorFile
+decoded-size s code none = eqb-true (length (s .vectors)) 2048 (not-false _ (none .0))
 
-pub decoded-size : (s : State) (code : List ℕ) → firstOf (beforeSeven s code) 0 ≡ 0 → length (s .vectors) ≡ 2048
-unfolding wrongVectorFile
-decoded-size s code e = eqb-true (length (s .vectors)) 2048 (not-false _ (passes-tests s code e .0))
-
-pub decoded-control : (s : State) (code : List ℕ) → firstOf (beforeSeven s code) 0 ≡ 0 → s .control < 2 ^ 16
-unfolding highControlBit
-decoded-control s code e = leb-false (2 ^ 16) (s .control) (passes-tests s code e .1)
+pub decoded-control : (s : State) (code : List ℕ) → NoneHolds (beforeSeven s code) → s .control < 2 ^ 16
+unfolding beforeSeven highControlBit
+decoded-control s code none = leb-false (2 ^ 16) (s .control) (none .1 .0)
 
 module _ (memory : List ℕ) (s : State) (code : List ℕ) where
   pub step-early : (n : ℕ) → firstOf (beforeSeven s code) 0 ≡ suc n → n < 6 → step memory s code ≡ refused (suc n) s

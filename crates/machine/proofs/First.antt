@@ -6,8 +6,8 @@ use mathlib.Core.Logic.{_≢_}
 use mathlib.Core.Bool.{Bool, true, false, cond}
 use mathlib.Core.List.{List, [], _∷_, _++_}
 use native.Mathlib.Omega.{arith}
-use Rattle.evex.specs.First.{firstOf}
-use Rattle.machine.specs.Answers.{NoneHolds, IsFirst, InOrder}
+use Rattle.evex.specs.First.{firstOf, NoneHolds}
+use Rattle.machine.specs.Answers.{IsFirst, InOrder}
 
 -- where nothing of a first list holds, the second decides
 pub first-append : {A : Type 0} (xs ys : List (Bool × A)) (d : A) → firstOf (xs ++ ys) d ≡ firstOf xs (firstOf ys d)

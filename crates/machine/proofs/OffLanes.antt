@@ -20,7 +20,7 @@ use Rattle.machine.specs.State.{State}
 use Rattle.machine.specs.Memory.{on, bytesRead, needsOutside}
 use Rattle.machine.specs.Lanes.{Sources, unmasked, laneOf, raised, raisesUnmasked}
 use Rattle.machine.specs.TwoRuns.{Needs}
-use Rattle.machine.specs.OffLanes.{Faults, Raises, OffLanes}
+use Rattle.machine.specs.OffLanes.{Faults, Raises, Flags, OffLanes}
 use Rattle.machine.proofs.Tables.{some-has, some-member, table-member, member-table, meets, or-meets}
 
 module _ (s : State) (code : List ℕ) (i : Instruction) (fields : decoded code ≡ Fields i) where
@@ -50,37 +50,38 @@ module _ (s : State) (code : List ℕ) (i : Instruction) (fields : decoded code 
   faults : Faults s i
   faults n = (found n, finds n)
 
-  module _ (g : Sources) where
-    abbrev mask : ℕ
-    mask = unmasked (i .rounding) (s .control)
+  module _ (g : Sources) (set : ℕ) where
+    abbrev laneFlags : ℕ → ℕ
+    laneFlags j = cond (on s i j) (laneOf s i g j .flags) 0
 
-    abbrev flags : ℕ → ℕ
-    flags j = cond (on s i j) (laneOf s i g j .flags) 0
+    any : meets set (raised s i g) ≡ some (meets set) (table 32 laneFlags)
+    unfolding raised
+    any = or-meets set (table 32 laneFlags)
 
-    any : raisesUnmasked s i g ≡ some (meets mask) (table 32 flags)
-    unfolding raisesUnmasked raised
-    any = or-meets mask (table 32 flags)
-
-    raising : raisesUnmasked s i g ≡ true → (j : ℕ) × (on s i j ≡ true) × (bitAnd (laneOf s i g j .flags) mask ≢ 0)
+    raising : meets set (raised s i g) ≡ true → (j : ℕ) × (on s i j ≡ true) × (bitAnd (laneOf s i g j .flags) set ≢ 0)
     raising e =
-        let l : (x : ℕ) × List·Memᴰ x (table 32 flags) × (meets mask x ≡ true) = some-member (meets mask) _ (sym any ∙ e) in
-        let k : (j : ℕ) × (j < 32) × (l .0 ≡ flags j) = member-table 32 flags (l .1) in
-        let r : (on s i (k .0) ≡ true) × (bitAnd (laneOf s i g (k .0) .flags) mask ≢ 0) = go (k .0) (on s i (k .0)) refl (rw (k .2) at (l .2)) in
+        let l : (x : ℕ) × List·Memᴰ x (table 32 laneFlags) × (meets set x ≡ true) = some-member (meets set) _ (sym any ∙ e) in
+        let k : (j : ℕ) × (j < 32) × (l .0 ≡ laneFlags j) = member-table 32 laneFlags (l .1) in
+        let r : (on s i (k .0) ≡ true) × (bitAnd (laneOf s i g (k .0) .flags) set ≢ 0) = go (k .0) (on s i (k .0)) refl (rw (k .2) at (l .2)) in
         (k .0, r .0, r .1)
       where
-        go : (j : ℕ) (t : Bool) → on s i j ≡ t → meets mask (cond t (laneOf s i g j .flags) 0) ≡ true
-            → (on s i j ≡ true) × (bitAnd (laneOf s i g j .flags) mask ≢ 0)
-        go j true e h = (e, eqb-false (bitAnd (laneOf s i g j .flags) mask) 0 (not-true _ h))
+        go : (j : ℕ) (t : Bool) → on s i j ≡ t → meets set (cond t (laneOf s i g j .flags) 0) ≡ true
+            → (on s i j ≡ true) × (bitAnd (laneOf s i g j .flags) set ≢ 0)
+        go j true e h = (e, eqb-false (bitAnd (laneOf s i g j .flags) set) 0 (not-true _ h))
         go j false e h = absurd (false≢true h)
 
-    raised-by : (j : ℕ) × (on s i j ≡ true) × (bitAnd (laneOf s i g j .flags) mask ≢ 0) → raisesUnmasked s i g ≡ true
+    raised-by : (j : ℕ) × (on s i j ≡ true) × (bitAnd (laneOf s i g j .flags) set ≢ 0) → meets set (raised s i g) ≡ true
     raised-by k =
         any
-        ∙ some-has (meets mask) (table 32 flags) (table-member 32 flags (k .0) (on-below (k .0) (k .1)))
-        (rw (k .1, ne-eqb (bitAnd (laneOf s i g (k .0) .flags) mask) 0 (k .2)))
+        ∙ some-has (meets set) (table 32 laneFlags) (table-member 32 laneFlags (k .0) (on-below (k .0) (k .1)))
+        (rw (k .1, ne-eqb (bitAnd (laneOf s i g (k .0) .flags) set) 0 (k .2)))
 
   raises : Raises s i
-  raises g = (raising g, raised-by g)
+  unfolding raisesUnmasked
+  raises g = (raising g (unmasked (i .rounding) (s .control)), raised-by g (unmasked (i .rounding) (s .control)))
+
+  flags : Flags s i
+  flags g set = ((λ n. raising g set (rw (ne-eqb (bitAnd (raised s i g) set) 0 n))), (λ k. eqb-false (bitAnd (raised s i g) set) 0 (not-true _ (raised-by g set k))))
 
 pub off-lanes : OffLanes
-off-lanes s code i fields = (faults s code i fields, raises s code i fields)
+off-lanes s code i fields = (faults s code i fields, raises s code i fields, flags s code i fields)

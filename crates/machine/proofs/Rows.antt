@@ -6,7 +6,7 @@ use Rattle.half.specs.Format.{units}
 use Rattle.half.specs.Exact.{against, whole, rootFrom, roundTo}
 use Rattle.half.specs.Round.{significant, encode, roundedHalf}
 use Rattle.half.specs.Numbers.{modeOf, answered}
-use Rattle.half.specs.Operations.{exactSum, halfAdd, halfSubtract, halfMultiply, halfDivide, halfRoot, halfMultiplyAdd}
+use Rattle.half.specs.Operations.{exactSum, halfAdd, halfMultiply, halfDivide, halfRoot, halfMultiplyAdd}
 use Rattle.half.specs.Rows.{starred}
 use Rattle.evex.specs.List.{rows}
 use Rattle.evex.specs.Fields.{takesSib, headOf, listed, first, registerForm, embeddedRounding, lanes, rounding, hasSib, baseBits, indexOf, noBase, baseOf, displacementAt, displacementSize, N, displacementOf, second, instruction}
@@ -19,5 +19,5 @@ use Rattle.machine.specs.Step.{wrongVectorFile, highControlBit, outsideM
 use Rattle.machine.specs.Rows.{StarredRows}
 
 pub starred-rows : StarredRows
-unfolding size units against whole rootFrom roundTo significant encode roundedHalf modeOf answered exactSum halfAdd halfSubtract halfMultiply halfDivide halfRoot halfMultiplyAdd starred rows takesSib headOf listed first registerForm embeddedRounding lanes rounding hasSib baseBits indexOf noBase baseOf displacementAt displacementSize fields.size N displacementOf second instruction noBytes wrongFirstByte fewerThanSixBytes wrongFixedBits notInList reservedLength zeroingWithoutMask extraSource bytesMissing longerThanFifteenBytes refusals decoded table on addressOf wordAddress bytesRead needsOutside registerHalves gathered laneResult results raised raisesUnmasked controlAfter newRegister vectorsAfter wrongVectorFile highControlBit outsideMemory unmaskedException beforeSeven conditions answerOf stopped completed step
+unfolding size units against whole rootFrom roundTo significant encode roundedHalf modeOf answered exactSum halfAdd halfMultiply halfDivide halfRoot halfMultiplyAdd starred rows takesSib headOf listed first registerForm embeddedRounding lanes rounding hasSib baseBits indexOf noBase baseOf displacementAt displacementSize fields.size N displacementOf second instruction noBytes wrongFirstByte fewerThanSixBytes wrongFixedBits notInList reservedLength zeroingWithoutMask extraSource bytesMissing longerThanFifteenBytes refusals decoded table on addressOf wordAddress bytesRead needsOutside registerHalves gathered laneResult results raised raisesUnmasked controlAfter newRegister vectorsAfter wrongVectorFile highControlBit outsideMemory unmaskedException beforeSeven conditions answerOf stopped completed step
 starred-rows = refl

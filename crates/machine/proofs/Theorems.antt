@@ -1,10 +1,10 @@
 -- The theorems of specs/Theorems.antt, each with its proof.
 -- Assumes nothing.
 use Rattle.machine.specs.Theorems.{Theorems}
-use Rattle.machine.proofs.Answers.{answers}
+use Rattle.machine.proofs.Answers.{answers, bytes-after}
 use Rattle.machine.proofs.OffLanes.{off-lanes}
 use Rattle.machine.proofs.TwoRuns.{two-runs}
 use Rattle.machine.proofs.Rows.{starred-rows}
 
 pub theorems : Theorems
-theorems = record { answers = answers; offLanes = off-lanes; twoRuns = two-runs; starredRows = starred-rows }
+theorems = record { answers = answers; bytesAfter = bytes-after; offLanes = off-lanes; twoRuns = two-runs; starredRows = starred-rows }

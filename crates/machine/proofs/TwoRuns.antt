@@ -21,7 +21,7 @@ use Rattle.machine.specs.State.{State, registerAt, lanePlaces}
 use Rattle.machine.specs.Memory.{on, addressOf, wordAddress, bytesRead, needsOutside}
 use Rattle.machine.specs.Lanes.{Sources, registerHalves, firstHalves, secondHalves, gathered, results, raised, raisesUnmasked, controlAfter, newByte, newRegister, vectorsAfter}
 use Rattle.machine.specs.Step.{wrongVectorFile, highControlBit, beforeSeven, refused, stopped, completed, step, run}
-use Rattle.machine.specs.TwoRuns.{EqualOpen, laneNumber, Alike, AlikeAfter, AlikeThroughout, Spares, SparesThroughout, TwoRuns}
+use Rattle.machine.specs.TwoRuns.{EqualOpen, laneNumber, Alike, AlikeAfter, AlikeThroughout, HiddenUnused, HiddenUnusedThroughout, TwoRuns}
 use Rattle.machine.proofs.Tables.{table-equal, length-table, getD-table, part-at}
 use Rattle.machine.proofs.Agree.{each-of, equal-at, numbers-equal, paste-equal}
 use Rattle.machine.proofs.Ends.{Way, early, fields, way, decoded-size, step-early, step-decoded}
@@ -170,9 +170,9 @@ module _ (HiddenLane HiddenByte : ℕ → Type 0) where
                 };
           })
 
-    same-step : (s : State) {v : List ℕ} (code : List ℕ) → EqualOpen HiddenPlace (s .vectors) v → Spares HiddenLane HiddenByte s code
+    same-step : (s : State) {v : List ℕ} (code : List ℕ) → EqualOpen HiddenPlace (s .vectors) v → HiddenUnused HiddenLane HiddenByte s code
         → AlikeAfter HiddenLane (step memory₁ s code) (step memory₂ (withVectors s v) code)
-    same-step s {v} code files spares = go (way s code)
+    same-step s {v} code files unused = go (way s code)
       where
         go : Way s code → AlikeAfter HiddenLane (step memory₁ s code) (step memory₂ (withVectors s v) code)
         go (early n e h) =
@@ -180,30 +180,30 @@ module _ (HiddenLane HiddenByte : ℕ → Type 0) where
             (refused-alike (suc n) s files)
         go (fields i d) =
             let g : gathered memory₁ s i ≡ gathered memory₂ (withVectors s v) i =
-            gathered-equal s files i memories (spares .lanes i d) (λ j t. each-of _ (λ a m. spares .bytes i d a (j, t, m))) in
+            gathered-equal s files i memories (unused .lanes i d) (λ j t. each-of _ (λ a m. unused .bytes i d a (j, t, m))) in
             rw (step-decoded memory₁ s code d, step-decoded memory₂ (withVectors s v) code {i = i} (rw (before-same s v code (files .lengths)) d))
             (rw (outside-same s v i, raises-same s v i, ← g, ← memories .lengths)
             (cond-related (AlikeAfter HiddenLane) (needsOutside s i (length memory₁)) (refused-alike 7 s files)
             (cond-related (AlikeAfter HiddenLane) (raisesUnmasked s i (gathered memory₁ s i)) (stopped-alike s files i g)
             (completed-alike s files i g (omega (arith, bounds code (d .1) .destination, decoded-size s code (d .0)))))))
 
-    step-alike : (s₁ s₂ : State) (code : List ℕ) → Alike HiddenLane s₁ s₂ → Spares HiddenLane HiddenByte s₁ code
+    step-alike : (s₁ s₂ : State) (code : List ℕ) → Alike HiddenLane s₁ s₂ → HiddenUnused HiddenLane HiddenByte s₁ code
         → AlikeAfter HiddenLane (step memory₁ s₁ code) (step memory₂ s₂ code)
-    step-alike s₁ s₂ code a spares = subst (λ (t : State). AlikeAfter HiddenLane (step memory₁ s₁ code) (step memory₂ t code)) same (same-step s₁ code (a .vectors) spares)
+    step-alike s₁ s₂ code a unused = subst (λ (t : State). AlikeAfter HiddenLane (step memory₁ s₁ code) (step memory₂ t code)) same (same-step s₁ code (a .vectors) unused)
       where
         same : withVectors s₁ (s₂ .vectors) ≡ s₂
         same = λ x. record { vectors = s₂ .vectors; masks = a .masks x; general = a .general x; control = a .control x; pointer = a .pointer x }
 
     -- ---- a run
 
-    runs-alike : (s₁ s₂ : State) (codes : List (List ℕ)) → Alike HiddenLane s₁ s₂ → SparesThroughout HiddenLane HiddenByte memory₁ s₁ codes
+    runs-alike : (s₁ s₂ : State) (codes : List (List ℕ)) → Alike HiddenLane s₁ s₂ → HiddenUnusedThroughout HiddenLane HiddenByte memory₁ s₁ codes
         → AlikeThroughout HiddenLane (run memory₁ s₁ codes) (run memory₂ s₂ codes)
     unfolding run
-    runs-alike s₁ s₂ [] a spares = tt
-    runs-alike s₁ s₂ (code ∷ codes) a spares =
-        let o : AlikeAfter HiddenLane (step memory₁ s₁ code) (step memory₂ s₂ code) = step-alike s₁ s₂ code a (spares .0) in
-        (o, runs-alike _ _ codes (o .states) (spares .1))
+    runs-alike s₁ s₂ [] a unused = tt
+    runs-alike s₁ s₂ (code ∷ codes) a unused =
+        let o : AlikeAfter HiddenLane (step memory₁ s₁ code) (step memory₂ s₂ code) = step-alike s₁ s₂ code a (unused .0) in
+        (o, runs-alike _ _ codes (o .states) (unused .1))
 
 pub two-runs : TwoRuns
-two-runs HiddenLane HiddenByte memory₁ memory₂ start₁ start₂ sequence memories starts spares =
-    runs-alike HiddenLane HiddenByte memories start₁ start₂ sequence starts spares
+two-runs HiddenLane HiddenByte memory₁ memory₂ start₁ start₂ sequence memories starts unused =
+    runs-alike HiddenLane HiddenByte memories start₁ start₂ sequence starts unused

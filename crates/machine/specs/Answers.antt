@@ -3,16 +3,16 @@
 use Prim.Native.Nat.{ℕ, _+_, _%_, _^_, _<_}
 use mathlib.Core.Path.{_≡_}
 use mathlib.Core.Logic.{_↔_, _≢_}
-use mathlib.Core.Bool.{Bool, true, false}
-use mathlib.Core.List.{List, [], _∷_, _++_}
+use mathlib.Core.Bool.{Bool, true}
+use mathlib.Core.List.{List, _∷_, _++_}
 use lib.Bits.{bitOr}
+use lib.ListN.{take}
+use Rattle.evex.specs.First.{NoneHolds}
+use Rattle.evex.specs.Decode.{decoded}
+use Rattle.evex.specs.declared.Instruction.{Instruction}
+use Rattle.evex.specs.declared.Decoded.the-variants.{Fields}
 use Rattle.machine.specs.State.{State, Stepped}
 use Rattle.machine.specs.Step.{conditions, step}
-
--- no condition holds
-abbrev pub NoneHolds : List (Bool × ℕ) → Type 0
-NoneHolds [] = Unit {0}
-NoneHolds (c ∷ cs) = (c .0 ≡ false) × NoneHolds cs
 
 -- n stands beside a condition that holds, and none before it does
 pub record IsFirst (cs : List (Bool × ℕ)) (n : ℕ) : Type 0 where
@@ -54,3 +54,9 @@ abbrev pub Answers : Type 0
 Answers =
     (memory : List ℕ) (s : State) (code : List ℕ)
     → InOrder (conditions memory s code) (step memory s code .answer .number) × Leaves s (step memory s code)
+
+-- "Bytes after the instruction are not looked at."
+abbrev pub BytesAfter : Type 0
+BytesAfter =
+    (memory : List ℕ) (s : State) (code rest : List ℕ) (i : Instruction)
+    → decoded code ≡ Fields i → step memory s (take (i .size) code ++ rest) ≡ step memory s code

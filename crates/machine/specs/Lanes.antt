@@ -1,5 +1,5 @@
 -- What a decoded instruction computes: sources, lanes, flags, the destination's new bytes.
-use Prim.Native.Nat.{ℕ, _+_, _*_, _/_, _%_, _^_}
+use Prim.Native.Nat.{ℕ, _/_, _%_, _^_}
 use mathlib.Core.Bool.{Bool, cond, not, _&&_}
 use mathlib.Core.List.{List}
 use lib.Bits.{bitAnd, bitOr}
@@ -103,7 +103,7 @@ module _ (s : State) (i : Instruction) (g : Sources) where
   unfoldable pub raised : ℕ
   raised = orAll (table 32 (λ j. cond (on s i j) (laneOf j .flags) 0))
 
-  -- 8: "If any exception raised by this instruction is unmasked"
+  -- 8: "If any exception raised by this instruction is unmasked"; "flags left from earlier steps cause nothing"
   unfoldable pub raisesUnmasked : Bool
   raisesUnmasked = not (eqb (bitAnd raised (unmasked (i .rounding) (s .control))) 0)
 

@@ -18,14 +18,15 @@ use Rattle.half.specs.Operations.{some}
 use Rattle.machine.specs.Lists.{table}
 use Rattle.machine.specs.State.{State}
 
--- a signed number modulo 2 to the 64
+-- a displacement modulo 2 to the 64: a signed number above -2 ^ 64
 abbrev pub wrapped : ℤ → ℕ
 wrapped (pos n) = n % 2 ^ 64
 wrapped (negsuc n) = 2 ^ 64 - suc n % 2 ^ 64
 
 module _ (s : State) (i : Instruction) where
   -- "aaa 000 means every lane is on; otherwise bit j of that mask register decides lane j." On and 'switches on' are terms of
-  -- document 01: "It switches on lane j when j is below its number of lanes and either aaa is 000 or bit j of mask register aaa is one."
+  -- document 01: "It switches on lane j when j is below its number of lanes and either aaa is 000 or bit j of mask register aaa is one
+  -- as the step begins."
   unfoldable pub on : ℕ → Bool
   on j = ltb j (i .lanes) && (eqb (i .mask) 0 || isSet (getD (s .masks) (i .mask) 0) j)
 
@@ -43,7 +44,8 @@ module _ (s : State) (i : Instruction) where
   unfoldable pub addressOf : Address → ℕ
   addressOf a = (baseValue (a .base) + indexValue (a .index) + wrapped (a .displacement)) % 2 ^ 64
 
-  -- "lane j's word begins 2j after the first, also modulo 2 to the 64"; with broadcast all lanes read the first.
+  -- "lane j's word begins 2j after the first, also modulo 2 to the 64"; with broadcast all lanes read the
+  -- first: "A broadcast word is needed when any lane is on."
   unfoldable pub wordAddress : Address → Bool → ℕ → ℕ
   wordAddress a broadcast j = (addressOf a + cond broadcast 0 (2 * j)) % 2 ^ 64
 

@@ -1,4 +1,4 @@
--- Document 01: "Lanes that are off read nothing, fault nothing and flag nothing." The conditions of 7 and 8, spelt out. Their proofs are in
+-- Document 01: "Lanes that are off read nothing, fault nothing and flag nothing." The conditions of 7 and 8 and the flags, spelt out. Their proofs are in
 -- proofs/OffLanes.antt; that lanes that are off read nothing is a case of TwoRuns.antt, where they are hidden.
 use Prim.Native.Nat.{ℕ, _≤_}
 use mathlib.Core.Path.{_≡_}
@@ -11,7 +11,7 @@ use Rattle.evex.specs.declared.Instruction.{Instruction}
 use Rattle.evex.specs.declared.Decoded.the-variants.{Fields}
 use Rattle.machine.specs.State.{State}
 use Rattle.machine.specs.Memory.{needsOutside}
-use Rattle.machine.specs.Lanes.{Sources, unmasked, laneOf, raisesUnmasked}
+use Rattle.machine.specs.Lanes.{Sources, unmasked, laneOf, raised, raisesUnmasked}
 use Rattle.machine.specs.TwoRuns.{SwitchesOn, Needs}
 
 module _ (s : State) (i : Instruction) where
@@ -26,6 +26,10 @@ module _ (s : State) (i : Instruction) where
       → (raisesUnmasked s i g ≡ true)
       ↔ ((j : ℕ) × SwitchesOn s i j × (bitAnd (laneOf s i g j .flags) (unmasked (i .rounding) (s .control)) ≢ 0))
 
+  -- of any set of flags one is raised exactly if a lane that is on raises one
+  abbrev pub Flags : Type 0
+  Flags = (g : Sources) (set : ℕ) → (bitAnd (raised s i g) set ≢ 0) ↔ ((j : ℕ) × SwitchesOn s i j × (bitAnd (laneOf s i g j .flags) set ≢ 0))
+
 -- Of every instruction.
 abbrev pub OffLanes : Type 0
-OffLanes = (s : State) (code : List ℕ) (i : Instruction) → decoded code ≡ Fields i → Faults s i × Raises s i
+OffLanes = (s : State) (code : List ℕ) (i : Instruction) → decoded code ≡ Fields i → Faults s i × Raises s i × Flags s i

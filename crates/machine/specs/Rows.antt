@@ -6,7 +6,7 @@ use mathlib.Core.Bool.{cond}
 use mathlib.Core.List.{List, [], _∷_, _++_, map}
 use lib.Bits.{bitOr}
 use lib.ListN.{replicate}
-use Rattle.half.specs.Rows.{Operation, plus, minus, times, over, root, fused, Row, starred, outcomeOf}
+use Rattle.half.specs.Rows.{Operation, plus, times, over, root, fused, Row, starred, outcomeOf}
 use Rattle.half.specs.declared.Mode.{Mode}
 use Rattle.half.specs.declared.Mode.the-variants.{Nearest, Down, Up, TowardZero}
 use Rattle.half.specs.declared.Outcome.{Outcome}
@@ -15,10 +15,9 @@ use Rattle.machine.specs.Step.{step}
 
 -- ---- the bytes: a stands in register 1, b in register 2, c in register 0, which is the destination; mask register 1, length bits 10
 
--- VADDPH, VSUBPH, VMULPH, VDIVPH of registers 1 and 2; VSQRTPH of register 1; VFMADD231PH, register 1 * register 2 + register 0
+-- VADDPH, VMULPH, VDIVPH of registers 1 and 2; VSQRTPH of register 1; VFMADD231PH, register 1 * register 2 + register 0
 abbrev pub bytesOf : Operation → List ℕ
 bytesOf plus = 0x62 ∷ 0xF5 ∷ 0x74 ∷ 0x49 ∷ 0x58 ∷ 0xC2 ∷ []
-bytesOf minus = 0x62 ∷ 0xF5 ∷ 0x74 ∷ 0x49 ∷ 0x5C ∷ 0xC2 ∷ []
 bytesOf times = 0x62 ∷ 0xF5 ∷ 0x74 ∷ 0x49 ∷ 0x59 ∷ 0xC2 ∷ []
 bytesOf over = 0x62 ∷ 0xF5 ∷ 0x74 ∷ 0x49 ∷ 0x5E ∷ 0xC2 ∷ []
 bytesOf root = 0x62 ∷ 0xF5 ∷ 0x7C ∷ 0x49 ∷ 0x51 ∷ 0xC1 ∷ []

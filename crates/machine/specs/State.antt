@@ -1,5 +1,5 @@
 -- Document 01, 'What the machine carries', and the control word of 'Rounding and flags'.
-use Prim.Native.Nat.{ℕ, _+_, _-_, _*_, _^_}
+use Prim.Native.Nat.{ℕ, _+_, _-_, _*_}
 use mathlib.Core.List.{List, [], _∷_}
 use lib.ListN.{getD}
 use Rattle.evex.specs.Bits.{bits}
@@ -33,7 +33,7 @@ abbrev pub lanePlaces : ℕ → ℕ → List ℕ
 lanePlaces n j = (registerAt n + 2 * j) ∷ (registerAt n + 2 * j + 1) ∷ []
 
 -- ---- 01, Rounding and flags: "Control word: flags IE DE ZE OE UE PE in bits 0 to 5, their masks in 7 to 12, mode in 13 and 14.
--- DAZ (6) and FZ (15) do not act on halves here."
+-- DAZ (6) and FZ (15) do not act on halves here".
 
 -- the exceptions whose mask bit is 0, as flags
 abbrev pub unmaskedFlags : ℕ → ℕ

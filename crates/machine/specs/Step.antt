@@ -85,9 +85,9 @@ completed memory s i =
           };
     }
 
--- ---- a step, and a run over a sequence of byte strings
+-- ---- a step, and a run: "A sequence is any number of byte strings, empty ones among them"
 
--- Where decoding refuses, the answer is one of 1 to 6 (specs/Answers.antt, proved in proofs/).
+-- Where decoding refuses, the answer is one of 1 to 6 (proofs/Ends.antt, `way`).
 unfoldable pub step : List ℕ → State → List ℕ → Stepped
 step memory s code =
     let n : ℕ = answerOf memory s code in

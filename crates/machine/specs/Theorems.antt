@@ -1,5 +1,5 @@
 -- What is proved of the machine, all in one: proofs/Theorems.antt.
-use Rattle.machine.specs.Answers.{Answers}
+use Rattle.machine.specs.Answers.{Answers, BytesAfter}
 use Rattle.machine.specs.OffLanes.{OffLanes}
 use Rattle.machine.specs.TwoRuns.{TwoRuns}
 use Rattle.machine.specs.Rows.{StarredRows}
@@ -7,7 +7,9 @@ use Rattle.machine.specs.Rows.{StarredRows}
 pub record Theorems : Type 1 where
   -- demand 1: which answer is given, and what it leaves
   pub answers : Answers
-  -- the conditions of 7 and 8: lanes that are off fault nothing and flag nothing
+  -- and that it turns on no byte after the instruction
+  pub bytesAfter : BytesAfter
+  -- the conditions of 7 and 8, and the flags: lanes that are off fault nothing and flag nothing
   pub offLanes : OffLanes
   -- demand 3: two runs
   pub twoRuns : TwoRuns

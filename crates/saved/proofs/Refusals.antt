@@ -1,7 +1,6 @@
 -- The statements of specs/Refusals.antt: the number is `firstOf` of the one list of conditions, and each of them has a number that is not 0.
 -- Assumes nothing.
 use Prim.Native.Nat.{ℕ}
-use mathlib.Core.Bool.{Bool}
 use mathlib.Core.List.{List}
 use native.Mathlib.Omega.{arith}
 use borrow.Author.Tests.{ne-eqb}

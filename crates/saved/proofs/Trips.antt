@@ -9,7 +9,7 @@ use borrow.Author.Tests.{eqb-true, eq-eqb, lt-leb, leb-false, not-false}
 use lib.Dec.{eqb, lit≤}
 use lib.ListN.{length, getD, take, drop, length-drop, take-append-drop}
 use lib.Seq.{getD-take, getD-drop, drop-cons}
-use Rattle.machine.specs.Answers.{NoneHolds}
+use Rattle.evex.specs.First.{NoneHolds}
 use Rattle.machine.specs.Lists.{table, Each}
 use Rattle.machine.specs.State.{State}
 use Rattle.machine.specs.Step.{wrongVectorFile, highControlBit}

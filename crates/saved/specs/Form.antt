@@ -39,6 +39,7 @@ savedSize = 2257
 unfoldable pub numbers : ℕ → ℕ → List ℕ → List ℕ → List ℕ
 numbers control pointer general masks = big 4 control ++ big 8 pointer ++ registers 16 general ++ registers 8 masks
 
+-- the house form, document 01's term
 unfoldable pub savedForm : State → List ℕ
 savedForm s = big 4 2253 ++ (1 ∷ []) ++ numbers (s .control) (s .pointer) (s .general) (s .masks) ++ s .vectors
 
