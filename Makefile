@@ -14,7 +14,7 @@ all: $(LIBRARY) target/bin/run
 
 # Only rt's own lines are shown; what a crate's check says in full is in target/log/.
 $(LIBRARY): $(SOURCES)
-	@echo 'Proving the library, crate by crate: a minute or two the first time.'
+	@echo 'Proving the library, crate by crate: a few minutes the first time.'
 	@rt staticlib ridgecrook | grep --line-buffered '^rt:'
 
 target/bin/run: $(SOURCES)

@@ -3,7 +3,7 @@ ghost use mathlib.Core.Path.{_≡_};
 ghost use Prim.Native.Nat.{_+_, _≤_, _<_};
 ghost use lib.ListN.{length, drop};
 ghost use Rattle.machine.specs.Step.{step};
-ghost use Rattle.step.specs.Stepped.{stateOf, steppedOf};
+ghost use Rattle.machine.specs.State.{stateOf, steppedOf};
 ghost use Rattle.command.specs.Command.{stepLine, linesFrom, codeLength, isLaidOut, printed, room, commanded, Wrote};
 ghost use Rattle.command.specs.Put.{Put};
 use machine::Answer;

@@ -49,6 +49,7 @@ fn is_up(mode: Mode) -> bool
     }
 }
 
+// One match of four would be a jump by the mode, which no processor foresees; two tests are none.
 fn leads_outward(mode: Mode, neg: bool) -> bool
     ensures { λ r. ⌜ r ≡ outward mode neg ⌝ }
 {

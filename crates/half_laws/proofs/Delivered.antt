@@ -108,6 +108,27 @@ module _ (mode : Mode) (neg : Bool) (x : Magnitude) (hd : 0 < denominator x) whe
         go false true = refl
         go false false = refl
 
+-- UE, bit 4, by the definition and by PE
+pub underflow-flag : (mode : Mode) (unmasked neg : Bool) (x : Magnitude) → overflows mode neg x ≡ false
+    → raises UE mode unmasked neg x ≡ (tiny mode neg x && (unmasked || raises PE mode unmasked neg x))
+unfolding roundedHalf
+underflow-flag mode unmasked neg x e = rw e (go (inexact mode neg x) (tiny mode neg x))
+  where
+    go : (i t : Bool)
+        → eqb (bitOr (flag PE i) (flag UE (t && (unmasked || i))) / UE % 2) 1 ≡ (t && (unmasked || eqb (bitOr (flag PE i) (flag UE (t && (unmasked || i))) / PE % 2) 1))
+    go i false = low i
+      where
+        low : (i : Bool) → eqb (bitOr (flag PE i) 0 / UE % 2) 1 ≡ false
+        low true = refl
+        low false = refl
+    go i true = both unmasked i
+      where
+        both : (u i : Bool) → eqb (bitOr (flag PE i) (flag UE (u || i)) / UE % 2) 1 ≡ (u || eqb (bitOr (flag PE i) (flag UE (u || i)) / PE % 2) 1)
+        both true true = refl
+        both true false = refl
+        both false true = refl
+        both false false = refl
+
 -- ---- with overflow
 
 pub over-is : (mode : Mode) (unmasked neg : Bool) (x : Magnitude) → overflows mode neg x ≡ true → roundedHalf mode unmasked neg x ≡ result (signed neg (overflowFields mode neg)) (bitOr OE PE)

@@ -6,5 +6,6 @@ pub mod Delivered
 pub mod Order
 pub mod Exactness
 pub mod Overflow
+pub mod Underflow
 pub mod Directed
 pub mod Proved

@@ -18,7 +18,7 @@ use Rattle.half.proofs.Cuts.{whole-spec}
 use Rattle.half.proofs.Bridge.{right-zero}
 use Rattle.half.proofs.Units.{finite-lt}
 use Rattle.half_laws.specs.Values.{AtLeast, Equals, HalfNotAbove, HalfNotBelow}
-use Rattle.half_laws.specs.Laws.{halfOf, afterOverflow, NearestTo, WholeUnitsLaw, DeliveredHalfLaw, NearestLaw, DownLaw, UpLaw, TowardZeroLaw, InexactLaw, OverflowFlagLaw, OverflowLaw, OverflowGridLaw, TooLargeLaw, FinerLaw, ElevenBitsLaw, ExactLaw, OrderLaw, HalfOrderLaw}
+use Rattle.half_laws.specs.Laws.{halfOf, afterOverflow, NearestTo, WholeUnitsLaw, DeliveredHalfLaw, NearestLaw, DownLaw, UpLaw, TowardZeroLaw, InexactLaw, OverflowFlagLaw, OverflowLaw, OverflowGridLaw, TooLargeLaw, UnderflowFlagLaw, TooSmallLaw, FinerLaw, ElevenBitsLaw, ExactLaw, OrderLaw, HalfOrderLaw}
 use Rattle.half_laws.proofs.Sides.{least-ge, ge-least, le-most, lt-below, equals-eq, above-gt}
 use Rattle.half_laws.proofs.Grid as grid
 use Rattle.half_laws.proofs.Grid.{half-on-grid, none-nearer, tie-even}
@@ -27,6 +27,7 @@ use Rattle.half_laws.proofs.Delivered as given
 use Rattle.half_laws.proofs.Order as ordered
 use Rattle.half_laws.proofs.Exactness as exactness
 use Rattle.half_laws.proofs.Overflow as limits
+use Rattle.half_laws.proofs.Underflow as limits-below
 use Rattle.half_laws.proofs.Directed as directed
 
 -- ---- 0
@@ -140,13 +141,21 @@ too-large = limits.too-large
 
 -- ---- 6
 
+pub underflow-flag : UnderflowFlagLaw
+underflow-flag = given.underflow-flag
+
+pub too-small : TooSmallLaw
+too-small = limits-below.too-small
+
+-- ---- 7
+
 pub finer : FinerLaw
 finer = exactness.finer
 
 pub eleven-bits : ElevenBitsLaw
 eleven-bits mode neg x hd a = exactness.eleven mode neg x hd (lt-of-le-of-lt (le-of-eq (sym (right-zero x))) (above-gt x 0 1 a))
 
--- ---- 7
+-- ---- 8
 
 pub exact : ExactLaw
 exact mode unmasked x hd h small finite e =
@@ -158,7 +167,7 @@ exact mode unmasked x hd h small finite e =
       given.inexact-flag mode s x hd f unmasked ∙ ap (λ (o : Ordering). not (isEq o)) i,
     )
 
--- ---- 8
+-- ---- 9
 
 pub order : OrderLaw
 order mode neg x y hx hy l = ordered.order-kept x y hx hy (ordered.leq-ordered x y hx hy l) mode neg

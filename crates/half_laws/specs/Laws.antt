@@ -2,14 +2,14 @@
 -- under the law's name. Throughout, ± x is the exact value: x its magnitude, a fraction or a root, with a denominator above 0, and
 -- `neg` its sign; `unmasked` says whether underflow is unmasked.
 use Prim.Native.Nat.{ℕ, _+_, _*_, _/_, _%_, _^_, _≤_, _<_}
-use mathlib.Core.Bool.{Bool, true, false}
+use mathlib.Core.Bool.{Bool, true, false, _&&_, _||_}
 use mathlib.Core.Logic.{_≢_, _↔_}
 use mathlib.Core.Path.{_≡_}
 use lib.Bits.{bitOr}
 use lib.Dec.{leb, eqb}
 use Rattle.half.specs.Format.{isFinite, negative, units}
 use Rattle.half.specs.Exact.{Magnitude, denominator, whole, roundTo}
-use Rattle.half.specs.Round.{OE, PE, significant, fine, unlimited, delivered, overflows, roundedHalf}
+use Rattle.half.specs.Round.{OE, UE, PE, significant, fine, unlimited, delivered, overflows, tiny, roundedHalf}
 use Rattle.half.specs.declared.Mode.{Mode}
 use Rattle.half.specs.declared.Mode.the-variants.{Nearest, Down, Up, TowardZero}
 use Rattle.half_laws.specs.Values.{AtMost, AtLeast, Equals, Above, Below, Leq, HalfNotAbove, HalfNotBelow, HalfLe}
@@ -125,7 +125,26 @@ TooLarge TowardZero neg x = AtLeast x 65536 1
 abbrev pub TooLargeLaw : Type 0
 TooLargeLaw = (mode : Mode) (neg : Bool) (x : Magnitude) → 0 < denominator x → (overflows mode neg x ≡ true) ↔ TooLarge mode neg x
 
--- ---- 6. "Round to 11 significant bits with no exponent limit"
+-- ---- 6. Underflow (IEEE 754, 7.5, detected after rounding; 01: "UE if tiny and either UE is unmasked or PE holds"), without overflow
+abbrev pub UnderflowFlagLaw : Type 0
+UnderflowFlagLaw = (mode : Mode) (unmasked neg : Bool) (x : Magnitude) → overflows mode neg x ≡ false
+    → raises UE mode unmasked neg x ≡ (tiny mode neg x && (unmasked || raises PE mode unmasked neg x))
+
+-- Which exact values are tiny. 2 ^ -14 is the smallest normal number, 2047 / 2 ^ 25 the largest number of 11 bits below it, and
+-- 4095 / 2 ^ 26 the middle between: to nearest below the middle, where the mode leads away from zero up to the first, where it leads
+-- toward zero below 2 ^ -14.
+abbrev pub TooSmall : Mode → Bool → Magnitude → Type 0
+TooSmall Nearest neg x = Below x 4095 (2 ^ 26)
+TooSmall Down false x = Below x 1 (2 ^ 14)
+TooSmall Down true x = AtMost x 2047 (2 ^ 25)
+TooSmall Up false x = AtMost x 2047 (2 ^ 25)
+TooSmall Up true x = Below x 1 (2 ^ 14)
+TooSmall TowardZero neg x = Below x 1 (2 ^ 14)
+
+abbrev pub TooSmallLaw : Type 0
+TooSmallLaw = (mode : Mode) (neg : Bool) (x : Magnitude) → 0 < denominator x → (tiny mode neg x ≡ true) ↔ (Above x 0 1 × TooSmall mode neg x)
+
+-- ---- 7. "Round to 11 significant bits with no exponent limit"
 
 -- The unit 2 ^ -(fine x) sets no limit: a finer one gives the same number.
 abbrev pub FinerLaw : Type 0
@@ -141,12 +160,12 @@ pub record ElevenBits (mode : Mode) (neg : Bool) (x : Magnitude) : Type 0 where
 abbrev pub ElevenBitsLaw : Type 0
 ElevenBitsLaw = (mode : Mode) (neg : Bool) (x : Magnitude) → 0 < denominator x → Above x 0 1 → ElevenBits mode neg x
 
--- ---- 7. An exact value that is a finite half's is delivered as that half, in every mode, without PE
+-- ---- 8. An exact value that is a finite half's is delivered as that half, in every mode, without PE
 abbrev pub ExactLaw : Type 0
 ExactLaw = (mode : Mode) (unmasked : Bool) (x : Magnitude) → 0 < denominator x → (h : ℕ) → h < 2 ^ 16 → isFinite h ≡ true → Equals x (units h) (2 ^ 24)
     → (halfOf mode unmasked (negative h) x ≡ h) × (raises PE mode unmasked (negative h) x ≡ false)
 
--- ---- 8. Rounding keeps order: in one mode and sign, a larger magnitude is rounded to no smaller one
+-- ---- 9. Rounding keeps order: in one mode and sign, a larger magnitude is rounded to no smaller one
 abbrev pub OrderLaw : Type 0
 OrderLaw = (mode : Mode) (neg : Bool) (x y : Magnitude) → 0 < denominator x → 0 < denominator y → Leq x y → delivered mode neg x ≤ delivered mode neg y
 

@@ -40,8 +40,8 @@ abbrev controlOf : Row → ℕ
 controlOf r = numberOfMode (r .mode) * 2 ^ 13 + cond (r .unmasked) 0x1780 0x1F80
 
 -- the row's state, with d in lane 0 of the destination; bit 0 of mask register 1 alone is one
-abbrev stateOf : Row → ℕ → ℕ → ℕ → State
-stateOf r d control pointer =
+abbrev rowState : Row → ℕ → ℕ → ℕ → State
+rowState r d control pointer =
     record {
       vectors = register d ++ (register (r .a) ++ (register (r .b) ++ replicate (29 * 64) 0x7D));
       masks = 0 ∷ 1 ∷ replicate 6 0;
@@ -51,15 +51,15 @@ stateOf r d control pointer =
     }
 
 abbrev pub start : Row → State
-start r = stateOf r (r .c) (controlOf r) 0
+start r = rowState r (r .c) (controlOf r) 0
 
 -- ---- what a step is to give: the half in lane 0, its flags in the control word, the pointer moved; with UE unmasked 8, and flags alone
 
 abbrev pub after : Row → Stepped
 after r =
     cond (r .unmasked)
-    (record { answer = record { number = 8; length = 0 }; state = stateOf r (r .c) (bitOr (controlOf r) (r .gives .flags)) 0 })
-    (record { answer = record { number = 0; length = 6 }; state = stateOf r (r .gives .half) (bitOr (controlOf r) (r .gives .flags)) 6 })
+    (record { answer = record { number = 8; length = 0 }; state = rowState r (r .c) (bitOr (controlOf r) (r .gives .flags)) 0 })
+    (record { answer = record { number = 0; length = 6 }; state = rowState r (r .gives .half) (bitOr (controlOf r) (r .gives .flags)) 6 })
 
 -- ---- the statement
 

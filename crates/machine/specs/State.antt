@@ -20,6 +20,15 @@ pub record Stepped : Type 0 where
   pub answer : Answer
   pub state : State
 
+-- the two, put together from the parts that the engine lends
+abbrev pub stateOf : List ℕ → List ℕ → List ℕ → ℕ → ℕ → State
+stateOf vectors masks general control pointer =
+    record { vectors = vectors; masks = masks; general = general; control = control; pointer = pointer }
+
+abbrev pub steppedOf : Answer → List ℕ → List ℕ → List ℕ → ℕ → ℕ → Stepped
+steppedOf answer vectors masks general control pointer =
+    record { answer = answer; state = stateOf vectors masks general control pointer }
+
 -- the little-endian number whose bytes stand at these places of a list
 abbrev pub numberAt : List ℕ → List ℕ → ℕ
 numberAt l [] = 0

@@ -3,7 +3,7 @@ ghost use mathlib.Core.Path.{_≡_};
 ghost use Rattle.half.specs.Numbers.{modeOf, yes, answered};
 ghost use Rattle.half.specs.Operations.{halfAdd, halfSubtract, halfMultiply, halfDivide, halfRoot, halfMultiplyAdd};
 ghost use Rattle.machine.specs.Step.{step};
-ghost use Rattle.step.specs.Stepped.{stateOf, steppedOf};
+ghost use Rattle.machine.specs.State.{stateOf, steppedOf};
 ghost use Rattle.saved.specs.Saved.{save, load};
 use half::Mode;
 use half::Rounded;

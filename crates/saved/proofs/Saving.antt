@@ -12,7 +12,7 @@ use lib.Seq.{take-all}
 use Rattle.machine.specs.State.{State}
 use Rattle.machine.specs.Step.{wrongVectorFile, highControlBit}
 use Rattle.saved.specs.Form.{big, registers, numbers, savedForm}
-use Rattle.saved.specs.Saved.{wrongTarget, saveConditions, save}
+use Rattle.saved.specs.Saved.{wrongSize, saveConditions, save}
 use Rattle.saved.proofs.Written.{Written, nothing, more, lent, all}
 use Rattle.saved.proofs.Places.{length-numbers, control-there, pointer-there, general-there, masks-there, length-saved, length-there, version-there, numbers-there, vectors-there}
 use Rattle.saved.proofs.Answered.{save-done, save-refused}
@@ -25,16 +25,16 @@ module _ (s : State) (target : List ℕ) where
   wrong-file h = sym (save-refused s target 1 refl (rw (ne-eqb _ _ h)))
 
   pub wrong-total : length (s .vectors) ≡ 2048 → (length target ≡ 2257 → ⊥) → record { number = 1; target = target } ≡ save s target
-  unfolding saveConditions wrongVectorFile wrongTarget
+  unfolding saveConditions wrongVectorFile wrongSize
   wrong-total f h = sym (save-refused s target 1 refl (rw (f, ne-eqb _ _ h)))
 
   pub high-control : length (s .vectors) ≡ 2048 → length target ≡ 2257 → 2 ^ 16 ≤ s .control → record { number = 2; target = target } ≡ save s target
-  unfolding saveConditions wrongVectorFile wrongTarget highControlBit
+  unfolding saveConditions wrongVectorFile wrongSize highControlBit
   high-control f t h = sym (save-refused s target 2 refl (rw (f, t, le-leb _ _ h)))
 
   pub saved : {x : List ℕ} → length (s .vectors) ≡ 2048 → length target ≡ 2257 → s .control < 2 ^ 16 → x ≡ savedForm s
       → record { number = 0; target = x } ≡ save s target
-  unfolding saveConditions wrongVectorFile wrongTarget highControlBit
+  unfolding saveConditions wrongVectorFile wrongSize highControlBit
   saved f t h e = ap (λ (x : List ℕ). record { number = 0; target = x }) e ∙ sym (save-done s target (rw (f, t, lt-leb _ _ h)))
 
 -- ---- what was written

@@ -15,7 +15,7 @@ use Rattle.machine.specs.State.{State}
 use Rattle.machine.specs.Step.{wrongVectorFile, highControlBit}
 use Rattle.machine.proofs.First.{none-holds, holds-none}
 use Rattle.saved.specs.Form.{big, valueFrom, numberIn, registers, numbers, savedForm, loadedState}
-use Rattle.saved.specs.Saved.{wrongTarget, saveConditions, Save, save, wrongSize, wrongLength, wrongVersion, loadConditions, Load, load, Held, LoadAfterSave, SaveAfterLoad}
+use Rattle.saved.specs.Saved.{wrongSize, saveConditions, Save, save, wrongLength, wrongVersion, loadConditions, Load, load, Held, LoadAfterSave, SaveAfterLoad}
 use Rattle.saved.proofs.Slices.{part-part, part-next, length-part, each-part}
 use Rattle.saved.proofs.Numbers.{value-big, big-value}
 use Rattle.saved.proofs.Registers.{read-registers, write-registers}
@@ -131,7 +131,7 @@ module _ (bytes target : List ℕ) (t : State) (room : length target ≡ 2257) (
 
   -- what was loaded can be saved
   saves : NoneHolds (saveConditions (loadedState bytes) target)
-  unfolding saveConditions loadConditions wrongVectorFile wrongTarget loadedState
+  unfolding saveConditions loadConditions wrongVectorFile wrongSize loadedState
   saves = (
     rw (eq-eqb (length (drop 209 bytes)) 2048 (omega (arith, length-drop 209 bytes, size))),
     (rw (eq-eqb (length target) 2257 room), (passed .1 .1 .1 .1 .0, tt)),

@@ -32,6 +32,9 @@ registers n values = joined (table n (λ k. big 8 (getD values k 0)))
 -- ---- "a 4-byte length of what follows (2,253), a version byte 1, control word, pointer, general registers, masks, all big-endian, then
 -- the vector file: 2,257 bytes"
 
+abbrev pub followingSize : ℕ
+followingSize = 2253
+
 abbrev pub savedSize : ℕ
 savedSize = 2257
 
@@ -41,7 +44,7 @@ numbers control pointer general masks = big 4 control ++ big 8 pointer ++ regist
 
 -- the house form, document 01's term
 unfoldable pub savedForm : State → List ℕ
-savedForm s = big 4 2253 ++ (1 ∷ []) ++ numbers (s .control) (s .pointer) (s .general) (s .masks) ++ s .vectors
+savedForm s = big 4 followingSize ++ (1 ∷ []) ++ numbers (s .control) (s .pointer) (s .general) (s .masks) ++ s .vectors
 
 -- The same places read back: behind 4 bytes of length and 1 of version, 4 of control word, 8 of pointer, 16 * 8 and 8 * 8 of registers.
 unfoldable pub loadedState : List ℕ → State

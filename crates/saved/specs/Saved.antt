@@ -9,15 +9,16 @@ use Rattle.evex.specs.First.{firstOf}
 use Rattle.machine.specs.Lists.{Each}
 use Rattle.machine.specs.State.{State}
 use Rattle.machine.specs.Step.{wrongVectorFile, highControlBit}
-use Rattle.saved.specs.Form.{numberIn, savedSize, savedForm, loadedState}
+use Rattle.saved.specs.Form.{numberIn, followingSize, savedSize, savedForm, loadedState}
+
+-- not the size of the house form
+unfoldable pub wrongSize : List ℕ → Bool
+wrongSize bytes = not (eqb (length bytes) savedSize)
 
 -- ---- saving: "Saving checks in order the vector file's size, the target's size (both 1), control word (2)."
 
-unfoldable pub wrongTarget : List ℕ → Bool
-wrongTarget target = not (eqb (length target) savedSize)
-
 unfoldable pub saveConditions : State → List ℕ → List (Bool × ℕ)
-saveConditions s target = (wrongVectorFile s, 1) ∷ (wrongTarget target, 1) ∷ (highControlBit s, 2) ∷ []
+saveConditions s target = (wrongVectorFile s, 1) ∷ (wrongSize target, 1) ∷ (highControlBit s, 2) ∷ []
 
 -- the answer's number, and the target as it is left
 pub record Save : Type 0 where
@@ -32,11 +33,8 @@ save s target =
 -- ---- loading: "Loading checks in order the size of the lent vector file (1), total size, length field and version (10), control word
 -- (2); refused, it hands back the state it was given."
 
-unfoldable pub wrongSize : List ℕ → Bool
-wrongSize bytes = not (eqb (length bytes) savedSize)
-
 unfoldable pub wrongLength : List ℕ → Bool
-wrongLength bytes = not (eqb (numberIn bytes 0 4) 2253)
+wrongLength bytes = not (eqb (numberIn bytes 0 4) followingSize)
 
 unfoldable pub wrongVersion : List ℕ → Bool
 wrongVersion bytes = not (eqb (getD bytes 4 0) 1)

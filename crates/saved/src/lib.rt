@@ -1,6 +1,7 @@
 // The saved form of the machine's state (document 01, 'Saved state and the command').
 ghost use mathlib.Core.Path.{_≡_};
 ghost use lib.ListN.{length};
+ghost use Rattle.machine.specs.State.{stateOf};
 ghost use Rattle.saved.specs.Form.{numbers};
 ghost use Rattle.saved.specs.Saved.{save, load};
 
@@ -28,13 +29,7 @@ pub fn save(
 ) -> u32
     ensures { λ r. ⌜ record { number = r; target = now (target .exit) }
         ≡ save
-        (record {
-          vectors = now (vectors .entry);
-          masks = now (masks .entry);
-          general = now (general .entry);
-          control = control;
-          pointer = pointer;
-        })
+        (stateOf (now (vectors .entry)) (now (masks .entry)) (now (general .entry)) control pointer)
         (now (target .entry)) ⌝ }
 {
     if vectors.len() != 2048 {
@@ -64,23 +59,11 @@ pub fn load(
 ) -> u32
     ensures { λ r. ⌜ record {
       number = r;
-      state = record {
-        vectors = now (vectors .exit);
-        masks = now (masks .exit);
-        general = now (general .exit);
-        control = now (control .exit);
-        pointer = now (pointer .exit);
-      };
+      state = stateOf (now (vectors .exit)) (now (masks .exit)) (now (general .exit)) (now (control .exit)) (now (pointer .exit));
     }
         ≡ load
         (now (saved .entry))
-        (record {
-          vectors = now (vectors .entry);
-          masks = now (masks .entry);
-          general = now (general .entry);
-          control = now (control .entry);
-          pointer = now (pointer .entry);
-        }) ⌝ }
+        (stateOf (now (vectors .entry)) (now (masks .entry)) (now (general .entry)) (now (control .entry)) (now (pointer .entry))) ⌝ }
 {
     if vectors.len() != 2048 {
         return 1;

@@ -24,14 +24,13 @@ use Rattle.evex.specs.declared.Decoded.the-variants.{Fields}
 use Rattle.evex.specs.Decode.{decoded}
 use Rattle.half.specs.Operations.{some}
 use Rattle.machine.specs.Lists.{table}
-use Rattle.machine.specs.State.{State, Stepped, registerAt}
+use Rattle.machine.specs.State.{State, Stepped, registerAt, steppedOf}
 use Rattle.machine.specs.Memory.{on, indexValue, baseValue, wrapped, addressOf, wordAddress, bytesRead, needsOutside}
 use Rattle.machine.specs.Lanes.{Sources, roundingMode, unmasked, underflowUnmasked, recorded, gathered, registerHalves, firstHalves, secondHalves, results, raised, raisesUnmasked, controlAfter, newRegister, vectorsAfter}
 use Rattle.machine.specs.Step.{refused, stopped, completed, step}
 use Rattle.machine.proofs.Ends.{refuses-memory, stops, completes}
 use Rattle.machine.proofs.Tables.{table-equal, getD-table}
 use Rattle.step.specs.declared.lanes.Results.{Results}
-use Rattle.step.specs.Stepped.{steppedOf}
 use Rattle.step.specs.Work.{onBy, keptBy, baseFrom, indexFrom, addressFrom, wordsOutside, outside, halvesWhere, registerWhere, firstWhere, secondWhere, resultsWhere, storedBytes, storedFile, Left, leftOf, finished, executed}
 
 -- ---- addresses: the next instruction's pointer may be cut to 64 bits before the sum

@@ -1,3 +1,2 @@
--- The contract of a step, and what the contracts of its parts say.
-pub mod Stepped
+-- What the contracts of a step's parts say; the step's own is machine's `step`.
 pub mod Work

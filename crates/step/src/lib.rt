@@ -4,7 +4,7 @@ ghost use lib.ListN.{length};
 ghost use Rattle.evex.specs.Bits.{isSet};
 ghost use Rattle.evex.proofs.Bounds.{Bounds};
 ghost use Rattle.machine.specs.Step.{step};
-ghost use Rattle.step.specs.Stepped.{stateOf, steppedOf};
+ghost use Rattle.machine.specs.State.{stateOf, steppedOf};
 ghost use Rattle.step.specs.Work.{leftOf, finished, executed, refusalNumber};
 use address::is_outside;
 use control::Control;

@@ -4,7 +4,7 @@ use Prim.Native.Nat.{_-_, _≤_}
 use mathlib.Core.Path.{_≡_, _∙_}
 use native.Mathlib.Omega.{arith}
 use lib.ListN.{length}
-use Rattle.step.specs.Stepped.{stateOf}
+use Rattle.machine.specs.State.{stateOf}
 use Rattle.command.proofs.Going.{Going, starts, ends, halts, stop-fits, moved, goes}
 use Rattle.command.proofs.put_lines.Statement.{statement}
 use Rattle.command.proofs.put_lines.Tie as tie

@@ -1,7 +1,6 @@
 -- `step::execute` meets its contract: 7 by the addresses, and else what the lanes give: see proofs/Meaning.antt.
 use Rattle.evex.specs.Bits.{isSet}
-use Rattle.machine.specs.State.{State}
-use Rattle.step.specs.Stepped.{stateOf}
+use Rattle.machine.specs.State.{State, stateOf}
 use Rattle.step.proofs.Meaning.{refuses, finishes}
 use borrow.Author.Needs.{needs}
 use Rattle.step.proofs.execute.Statement.{statement}

@@ -1,9 +1,8 @@
 -- `step::step` meets its contract: each return is one of the ways in which the machine's step ends.
 use mathlib.Core.Path.{sym, _∙_}
 use Rattle.evex.proofs.Bounds.{bounds}
-use Rattle.machine.specs.State.{State}
+use Rattle.machine.specs.State.{State, stateOf}
 use Rattle.machine.proofs.Ends.{refuses-size, refuses-control, refuses-decoding}
-use Rattle.step.specs.Stepped.{stateOf}
 use Rattle.step.proofs.Meaning.{executes}
 use borrow.Author.Needs.{needs}
 use Rattle.step.proofs.step.Statement.{statement}
