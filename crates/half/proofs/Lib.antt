@@ -12,4 +12,3 @@ pub mod Steps
 pub mod Special
 pub mod Sums
 pub mod Quotients
-pub mod Answers

@@ -1,9 +1,8 @@
--- What a reader opens: Format, Exact, Round, Operations, Numbers, in this order; Rows shows document 01's starred rows.
+-- What a reader opens: Format, Exact, Round, Operations, in this order; Rows has document 01's starred rows.
 -- Work is for the code alone.
 pub mod Format
 pub mod Exact
 pub mod Round
 pub mod Operations
-pub mod Numbers
 pub mod Rows
 pub mod Work

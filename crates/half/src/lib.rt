@@ -1,7 +1,6 @@
 // IEEE 754 binary16 arithmetic: six operations, each rounded once, with its six flags.
 mod fields;
 pub mod fused;
-pub mod numbers;
 mod operands;
 pub mod product;
 pub mod quotient;
@@ -17,22 +16,8 @@ pub enum Mode {
     TowardZero,
 }
 
-// What the number of a mode says.
-pub enum ModeNumber {
-    Means(Mode),
-    Above,
-}
-
 // What an operation hands back: a half, and the flags IE 1, DE 2, ZE 4, OE 8, UE 16, PE 32.
 pub struct Outcome {
     pub half: u16,
     pub flags: u8,
-}
-
-// The same for C, with the number of the answer: 0, or 9 for a mode above 3.
-#[repr(C)]
-pub struct Rounded {
-    pub half: u16,
-    pub flags: u8,
-    pub number: u8,
 }

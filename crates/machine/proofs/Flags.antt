@@ -8,11 +8,11 @@ use lib.Dec.{lit≤}
 use Rattle.half.specs.Format.{isNan, isSignalling, isSubnormal}
 use Rattle.half.specs.Exact.{Magnitude}
 use Rattle.half.specs.Round.{IE, DE, ZE, UE, PE, flag, result, tiny, inexact, overflows, roundedHalf}
-use Rattle.half.specs.Numbers.{modeOf, yes, answered}
+use Rattle.numbers.specs.Numbers.{modeOf, yes, answered}
 use Rattle.half.specs.Operations.{some, invalid, exactly, nanResult, exactSum, withDenormals, unlessNan, halfAdd, halfSubtract, halfMultiply, halfDivide, halfRoot, halfMultiplyAdd}
 use Rattle.half.specs.declared.Mode.{Mode}
-use Rattle.half.specs.declared.ModeNumber.{ModeNumber}
-use Rattle.half.specs.declared.ModeNumber.the-variants.{Means, Above}
+use Rattle.numbers.specs.declared.ModeNumber.{ModeNumber}
+use Rattle.numbers.specs.declared.ModeNumber.the-variants.{Means, Above}
 use Rattle.half.specs.declared.Outcome.{Outcome}
 use Rattle.evex.specs.declared.Operation.{Operation}
 use Rattle.evex.specs.declared.Operation.the-variants.{Add, Multiply, Subtract, Divide, SquareRoot, Fused132, Fused213, Fused231}

@@ -5,7 +5,7 @@ use lib.Ieee.{size}
 use Rattle.half.specs.Format.{units}
 use Rattle.half.specs.Exact.{against, whole, rootFrom, roundTo}
 use Rattle.half.specs.Round.{significant, encode, roundedHalf}
-use Rattle.half.specs.Numbers.{modeOf, answered}
+use Rattle.numbers.specs.Numbers.{modeOf, answered}
 use Rattle.half.specs.Operations.{exactSum, halfAdd, halfMultiply, halfDivide, halfRoot, halfMultiplyAdd}
 use Rattle.half.specs.Rows.{starred}
 use Rattle.evex.specs.List.{rows}

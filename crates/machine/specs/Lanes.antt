@@ -6,11 +6,11 @@ use lib.Bits.{bitAnd, bitOr}
 use lib.Dec.{eqb, ltb}
 use lib.ListN.{getD, take, drop}
 use lib.Seq.{paste}
-use Rattle.half.specs.Numbers.{modeOf, yes, answered}
+use Rattle.numbers.specs.Numbers.{modeOf, yes, answered}
 use Rattle.half.specs.Operations.{halfAdd, halfSubtract, halfMultiply, halfDivide, halfRoot, halfMultiplyAdd}
 use Rattle.half.specs.declared.Mode.{Mode}
 use Rattle.half.specs.declared.Outcome.{Outcome}
-use Rattle.half.specs.declared.Rounded.{Rounded}
+use Rattle.numbers.specs.declared.Rounded.{Rounded}
 use Rattle.evex.specs.Bits.{bits}
 use Rattle.evex.specs.declared.Operation.{Operation}
 use Rattle.evex.specs.declared.Operation.the-variants.{Add, Multiply, Subtract, Divide, SquareRoot, Fused132, Fused213, Fused231}

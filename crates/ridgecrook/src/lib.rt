@@ -1,47 +1,47 @@
 // The C entry points of include/ridgecrook.h and nothing else: each calls the proved function of its crate, and has its contract.
 ghost use mathlib.Core.Path.{_≡_};
-ghost use Rattle.half.specs.Numbers.{modeOf, yes, answered};
+ghost use Rattle.numbers.specs.Numbers.{modeOf, yes, answered};
 ghost use Rattle.half.specs.Operations.{halfAdd, halfSubtract, halfMultiply, halfDivide, halfRoot, halfMultiplyAdd};
 ghost use Rattle.machine.specs.Step.{step};
 ghost use Rattle.machine.specs.State.{stateOf, steppedOf};
 ghost use Rattle.saved.specs.Saved.{save, load};
 use half::Mode;
-use half::Rounded;
 use machine::Answer;
+use numbers::Rounded;
 
 #[no_mangle]
 pub extern "C" fn ridgecrook_add(a: u16, b: u16, mode: u32, underflow_unmasked: u32) -> Rounded
     ensures { λ r. ⌜ r ≡ answered (modeOf mode) (λ (m : Mode). halfAdd m (yes «underflow_unmasked») a b) ⌝ }
 {
-    half::numbers::add(a, b, mode, underflow_unmasked)
+    numbers::add(a, b, mode, underflow_unmasked)
 }
 
 #[no_mangle]
 pub extern "C" fn ridgecrook_subtract(a: u16, b: u16, mode: u32, underflow_unmasked: u32) -> Rounded
     ensures { λ r. ⌜ r ≡ answered (modeOf mode) (λ (m : Mode). halfSubtract m (yes «underflow_unmasked») a b) ⌝ }
 {
-    half::numbers::subtract(a, b, mode, underflow_unmasked)
+    numbers::subtract(a, b, mode, underflow_unmasked)
 }
 
 #[no_mangle]
 pub extern "C" fn ridgecrook_multiply(a: u16, b: u16, mode: u32, underflow_unmasked: u32) -> Rounded
     ensures { λ r. ⌜ r ≡ answered (modeOf mode) (λ (m : Mode). halfMultiply m (yes «underflow_unmasked») a b) ⌝ }
 {
-    half::numbers::multiply(a, b, mode, underflow_unmasked)
+    numbers::multiply(a, b, mode, underflow_unmasked)
 }
 
 #[no_mangle]
 pub extern "C" fn ridgecrook_divide(a: u16, b: u16, mode: u32, underflow_unmasked: u32) -> Rounded
     ensures { λ r. ⌜ r ≡ answered (modeOf mode) (λ (m : Mode). halfDivide m (yes «underflow_unmasked») a b) ⌝ }
 {
-    half::numbers::divide(a, b, mode, underflow_unmasked)
+    numbers::divide(a, b, mode, underflow_unmasked)
 }
 
 #[no_mangle]
 pub extern "C" fn ridgecrook_square_root(a: u16, mode: u32, underflow_unmasked: u32) -> Rounded
     ensures { λ r. ⌜ r ≡ answered (modeOf mode) (λ (m : Mode). halfRoot m (yes «underflow_unmasked») a) ⌝ }
 {
-    half::numbers::square_root(a, mode, underflow_unmasked)
+    numbers::square_root(a, mode, underflow_unmasked)
 }
 
 // a * b + c
@@ -55,7 +55,7 @@ pub extern "C" fn ridgecrook_fused_multiply_add(
 ) -> Rounded
     ensures { λ r. ⌜ r ≡ answered (modeOf mode) (λ (m : Mode). halfMultiplyAdd m (yes «underflow_unmasked») a b c) ⌝ }
 {
-    half::numbers::multiply_add(a, b, c, mode, underflow_unmasked)
+    numbers::multiply_add(a, b, c, mode, underflow_unmasked)
 }
 
 #[no_mangle]

@@ -2,7 +2,7 @@
 -- Assumes nothing.
 use mathlib.Core.Path.{_≡_, refl}
 use mathlib.Core.Bool.{Bool, true, false, cond}
-use Rattle.half.specs.declared.Rounded.{Rounded}
+use Rattle.numbers.specs.declared.Rounded.{Rounded}
 use Rattle.step.specs.Work.{nothing}
 
 pub half-if : (t : Bool) (r : Rounded) → cond t r nothing .half ≡ cond t (r .half) 0

@@ -7,11 +7,10 @@ use lib.Bits.{bitAnd}
 use lib.Dec.{eqb, ltb, leb}
 use lib.ListN.{length, getD, take, drop}
 use lib.Seq.{paste}
-use Rattle.half.specs.declared.Rounded.{Rounded}
+use Rattle.numbers.specs.declared.Rounded.{Rounded}
 use Rattle.evex.specs.Bits.{isSet}
 use Rattle.evex.specs.Decode.{numberOf}
 use Rattle.evex.specs.declared.Operation.{Operation}
-use Rattle.evex.specs.declared.Rounding.{Rounding}
 use Rattle.evex.specs.declared.Source.{Source}
 use Rattle.evex.specs.declared.Source.the-variants as source
 use Rattle.evex.specs.declared.Base.{Base}

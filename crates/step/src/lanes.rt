@@ -6,8 +6,7 @@ ghost use Rattle.machine.specs.Lanes.{laneResult};
 ghost use Rattle.step.specs.Work.{nothing, resultsWhere};
 use super::mask::has;
 use evex::Operation;
-use half::Rounded;
-use half::numbers;
+use numbers::Rounded;
 
 // 0 in lanes that are off.
 pub struct Results {

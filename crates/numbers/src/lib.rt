@@ -1,16 +1,28 @@
-// The operations on numbers, for callers that have no enum: a mode above 3 is answered 9.
+// The half arithmetic for callers that have no enum, as C and the machine: a mode is a number, and one above 3 is answered 9.
 ghost use mathlib.Core.Path.{_≡_};
-ghost use Rattle.half.specs.Numbers.{modeOf, yes, answered};
+ghost use Rattle.numbers.specs.Numbers.{modeOf, yes, answered};
 ghost use Rattle.half.specs.Operations.{halfAdd, halfSubtract, halfMultiply, halfDivide, halfRoot, halfMultiplyAdd};
-use super::Mode;
-use super::ModeNumber;
-use super::Outcome;
-use super::Rounded;
-use super::fused;
-use super::product;
-use super::quotient;
-use super::root;
-use super::sum;
+use half::Mode;
+use half::Outcome;
+use half::fused;
+use half::product;
+use half::quotient;
+use half::root;
+use half::sum;
+
+// What the number of a mode says.
+pub enum ModeNumber {
+    Means(Mode),
+    Above,
+}
+
+// A half and its flags, with the number of the answer: 0, or 9 for a mode above 3. In C's layout.
+#[repr(C)]
+pub struct Rounded {
+    pub half: u16,
+    pub flags: u8,
+    pub number: u8,
+}
 
 // The mode of a number.
 pub fn mode_of(number: u32) -> ModeNumber

@@ -1,7 +1,7 @@
 -- Written out so that a body that hands back another half is refused here.
 use mathlib.Core.Path.{refl}
-use Rattle.half.proofs.numbers.done.Statement.{statement}
-use Rattle.half.proofs.numbers.done.Tie as tie
+use Rattle.numbers.proofs.done.Statement.{statement}
+use Rattle.numbers.proofs.done.Tie as tie
 
 returns : tie.Need-returns
 returns c = refl

@@ -2,12 +2,12 @@
 use Prim.Native.Nat.{ℕ}
 use mathlib.Core.Bool.{Bool, not, cond}
 use lib.Dec.{eqb}
 use Rattle.half.specs.declared.Mode.{Mode}
 use Rattle.half.specs.declared.Mode.the-variants.{Nearest, Down, Up, TowardZero}
-use Rattle.half.specs.declared.ModeNumber.{ModeNumber}
-use Rattle.half.specs.declared.ModeNumber.the-variants.{Means, Above}
+use Rattle.numbers.specs.declared.ModeNumber.{ModeNumber}
+use Rattle.numbers.specs.declared.ModeNumber.the-variants.{Means, Above}
 use Rattle.half.specs.declared.Outcome.{Outcome}
-use Rattle.half.specs.declared.Rounded.{Rounded}
+use Rattle.numbers.specs.declared.Rounded.{Rounded}
 
 -- 01, Rounding and flags: "Modes: 0 nearest, ties to even; 1 down; 2 up; 3 toward zero."
 unfoldable pub modeOf : ℕ → ModeNumber

@@ -1,7 +1,7 @@
-use Rattle.half.proofs.Answers.{answer-nine, answer-done}
+use Rattle.numbers.proofs.Answers.{answer-nine, answer-done}
 use borrow.Author.Needs.{needs}
-use Rattle.half.proofs.numbers.multiply.Statement.{statement}
-use Rattle.half.proofs.numbers.multiply.Tie as tie
+use Rattle.numbers.proofs.add.Statement.{statement}
+use Rattle.numbers.proofs.add.Tie as tie
 
 mode-of-requires : tie.Need-mode-of-requires
 mode-of-requires c κs = search needs
@@ -18,17 +18,17 @@ refused-requires c κs = search needs
 returns : tie.Need-returns
 returns c = answer-nine (c .before .before .before .before .args .mode) _ (c .before .before .before .mode-of .ensures) (c .before .enum-told .given .1) (c .refused .ensures)
 
-multiply-requires : tie.Need-multiply-requires
-multiply-requires c κs = search needs
+add-requires : tie.Need-add-requires
+add-requires c κs = search needs
 
 done-requires : tie.Need-done-requires
 done-requires c κs = search needs
 
 returns-2 : tie.Need-returns-2
-returns-2 c = answer-done (c .before .before .before .before .before .before .args .mode) _ (c .before .before .before .before .before .mode-of .ensures) _ (c .before .before .before .m .given .1) (c .before .multiply .ensures) (c .done .ensures)
+returns-2 c = answer-done (c .before .before .before .before .before .before .args .mode) _ (c .before .before .before .before .before .mode-of .ensures) _ (c .before .before .before .m .given .1) (c .before .add .ensures) (c .done .ensures)
 
-pub multiply-spec : {M : Type 1} → statement M
-multiply-spec =
+pub add-spec : {M : Type 1} → statement M
+add-spec =
     tie.close
     (tie.spec
     mode-of-requires
@@ -36,6 +36,6 @@ multiply-spec =
     enum-told
     refused-requires
     returns
-    multiply-requires
+    add-requires
     done-requires
     returns-2)

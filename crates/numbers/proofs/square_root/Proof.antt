@@ -1,7 +1,7 @@
-use Rattle.half.proofs.Answers.{answer-nine, answer-done}
+use Rattle.numbers.proofs.Answers.{answer-nine, answer-done}
 use borrow.Author.Needs.{needs}
-use Rattle.half.proofs.numbers.add.Statement.{statement}
-use Rattle.half.proofs.numbers.add.Tie as tie
+use Rattle.numbers.proofs.square_root.Statement.{statement}
+use Rattle.numbers.proofs.square_root.Tie as tie
 
 mode-of-requires : tie.Need-mode-of-requires
 mode-of-requires c κs = search needs
@@ -18,17 +18,17 @@ refused-requires c κs = search needs
 returns : tie.Need-returns
 returns c = answer-nine (c .before .before .before .before .args .mode) _ (c .before .before .before .mode-of .ensures) (c .before .enum-told .given .1) (c .refused .ensures)
 
-add-requires : tie.Need-add-requires
-add-requires c κs = search needs
+square-root-requires : tie.Need-square-root-requires
+square-root-requires c κs = search needs
 
 done-requires : tie.Need-done-requires
 done-requires c κs = search needs
 
 returns-2 : tie.Need-returns-2
-returns-2 c = answer-done (c .before .before .before .before .before .before .args .mode) _ (c .before .before .before .before .before .mode-of .ensures) _ (c .before .before .before .m .given .1) (c .before .add .ensures) (c .done .ensures)
+returns-2 c = answer-done (c .before .before .before .before .before .before .args .mode) _ (c .before .before .before .before .before .mode-of .ensures) _ (c .before .before .before .m .given .1) (c .before .square-root .ensures) (c .done .ensures)
 
-pub add-spec : {M : Type 1} → statement M
-add-spec =
+pub square-root-spec : {M : Type 1} → statement M
+square-root-spec =
     tie.close
     (tie.spec
     mode-of-requires
@@ -36,6 +36,6 @@ add-spec =
     enum-told
     refused-requires
     returns
-    add-requires
+    square-root-requires
     done-requires
     returns-2)

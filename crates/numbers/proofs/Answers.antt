@@ -1,12 +1,12 @@
 -- The operations on numbers: the mode's number read, and the answer made.
 use Prim.Native.Nat.{ℕ}
 use mathlib.Core.Path.{_≡_}
-use Rattle.half.specs.Numbers.{modeOf, answered}
+use Rattle.numbers.specs.Numbers.{modeOf, answered}
 use Rattle.half.specs.declared.Mode.{Mode}
-use Rattle.half.specs.declared.ModeNumber.{ModeNumber}
-use Rattle.half.specs.declared.ModeNumber.the-variants.{Means, Above}
+use Rattle.numbers.specs.declared.ModeNumber.{ModeNumber}
+use Rattle.numbers.specs.declared.ModeNumber.the-variants.{Means, Above}
 use Rattle.half.specs.declared.Outcome.{Outcome}
-use Rattle.half.specs.declared.Rounded.{Rounded}
+use Rattle.numbers.specs.declared.Rounded.{Rounded}
 
 module _ (k : ℕ) (f : Mode → Outcome) {n : ModeNumber} (hn : n ≡ modeOf k) {r : Rounded} where
   pub answer-nine : n ≡ Above → r ≡ record { half = 0; flags = 0; number = 9 } → r ≡ answered (modeOf k) f

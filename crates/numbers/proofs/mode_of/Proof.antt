@@ -1,7 +1,7 @@
 use borrow.Author.Tests.{ne-eqb}
-use Rattle.half.specs.Numbers.{modeOf}
-use Rattle.half.proofs.numbers.mode_of.Statement.{statement}
-use Rattle.half.proofs.numbers.mode_of.Tie as tie
+use Rattle.numbers.specs.Numbers.{modeOf}
+use Rattle.numbers.proofs.mode_of.Statement.{statement}
+use Rattle.numbers.proofs.mode_of.Tie as tie
 
 returns : tie.Need-returns
 unfolding modeOf
