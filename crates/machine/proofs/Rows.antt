@@ -13,11 +13,11 @@ use Rattle.evex.specs.Fields.{takesSib, headOf, listed, first, registerForm, em
 use Rattle.evex.specs.Fields as fields
 use Rattle.evex.specs.Decode.{noBytes, wrongFirstByte, fewerThanSixBytes, wrongFixedBits, notInList, reservedLength, zeroingWithoutMask, extraSource, bytesMissing, longerThanFifteenBytes, refusals, decoded}
 use Rattle.machine.specs.Lists.{table}
-use Rattle.machine.specs.Memory.{on, addressOf, wordAddress, bytesRead, needsOutside}
-use Rattle.machine.specs.Lanes.{registerHalves, gathered, laneResult, results, raised, raisesUnmasked, controlAfter, newRegister, vectorsAfter}
+use Rattle.machine.specs.Memory.{addressFrom, on, bytesRead, needsOutside}
+use Rattle.machine.specs.Lanes.{registerHalves, memoryHalves, gathered, laneResult, results, raised, raisesUnmasked, controlAfter, newRegister, vectorsAfter}
 use Rattle.machine.specs.Step.{wrongVectorFile, highControlBit, outsideMemory, unmaskedException, beforeSeven, conditions, answerOf, stopped, completed, step}
 use Rattle.machine.specs.Rows.{StarredRows}
 
 pub starred-rows : StarredRows
-unfolding size units against whole rootFrom roundTo significant encode roundedHalf modeOf answered exactSum halfAdd halfMultiply halfDivide halfRoot halfMultiplyAdd starred rows takesSib headOf listed first registerForm embeddedRounding lanes rounding hasSib baseBits indexOf noBase baseOf displacementAt displacementSize fields.size N displacementOf second instruction noBytes wrongFirstByte fewerThanSixBytes wrongFixedBits notInList reservedLength zeroingWithoutMask extraSource bytesMissing longerThanFifteenBytes refusals decoded table on addressOf wordAddress bytesRead needsOutside registerHalves gathered laneResult results raised raisesUnmasked controlAfter newRegister vectorsAfter wrongVectorFile highControlBit outsideMemory unmaskedException beforeSeven conditions answerOf stopped completed step
+unfolding size units against whole rootFrom roundTo significant encode roundedHalf modeOf answered exactSum halfAdd halfMultiply halfDivide halfRoot halfMultiplyAdd starred rows takesSib headOf listed first registerForm embeddedRounding lanes rounding hasSib baseBits indexOf noBase baseOf displacementAt displacementSize fields.size N displacementOf second instruction noBytes wrongFirstByte fewerThanSixBytes wrongFixedBits notInList reservedLength zeroingWithoutMask extraSource bytesMissing longerThanFifteenBytes refusals decoded table addressFrom on bytesRead needsOutside registerHalves memoryHalves gathered laneResult results raised raisesUnmasked controlAfter newRegister vectorsAfter wrongVectorFile highControlBit outsideMemory unmaskedException beforeSeven conditions answerOf stopped completed step
 starred-rows = refl

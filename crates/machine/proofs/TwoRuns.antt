@@ -18,8 +18,8 @@ use Rattle.evex.specs.declared.Instruction.{Instruction}
 use Rattle.evex.proofs.Bounds.{bounds}
 use Rattle.machine.specs.Lists.{Each}
 use Rattle.machine.specs.State.{State, registerAt, lanePlaces}
-use Rattle.machine.specs.Memory.{on, addressOf, wordAddress, bytesRead, needsOutside}
-use Rattle.machine.specs.Lanes.{Sources, registerHalves, firstHalves, secondHalves, gathered, results, raised, raisesUnmasked, controlAfter, newByte, newRegister, vectorsAfter}
+use Rattle.machine.specs.Memory.{on, nextPointer, bytesRead, needsOutside}
+use Rattle.machine.specs.Lanes.{Sources, registerHalves, memoryHalves, firstHalves, secondHalves, gathered, results, raised, raisesUnmasked, controlAfter, newByte, newRegister, vectorsAfter}
 use Rattle.machine.specs.Step.{wrongVectorFile, highControlBit, beforeSeven, refused, stopped, completed, step, run}
 use Rattle.machine.specs.TwoRuns.{EqualOpen, laneNumber, Alike, AlikeAfter, AlikeThroughout, HiddenUnused, HiddenUnusedThroughout, TwoRuns}
 use Rattle.machine.proofs.Tables.{table-equal, length-table, getD-table, part-at}
@@ -51,7 +51,7 @@ module _ (s : State) (v : List ℕ) where
 
   module _ (i : Instruction) where
     outside-same : (n : ℕ) → needsOutside (withVectors s v) i n ≡ needsOutside s i n
-    unfolding needsOutside on bytesRead wordAddress addressOf
+    unfolding needsOutside on bytesRead
     outside-same n = refl
 
     raises-same : (g : Sources) → raisesUnmasked (withVectors s v) i g ≡ raisesUnmasked s i g
@@ -79,25 +79,25 @@ module _ (HiddenLane HiddenByte : ℕ → Type 0) where
     -- ---- what is read
 
     module _ {memory₁ memory₂ : List ℕ} (memories : EqualOpen HiddenByte memory₁ memory₂) (lanes : (j : ℕ) → on s i j ≡ true → ¬ HiddenLane j) where
-      registers-equal : (n : ℕ) → registerHalves s i n ≡ registerHalves (withVectors s v) i n
-      unfolding registerHalves on
+      registers-equal : (n : ℕ) → registerHalves (on s i) (s .vectors) n ≡ registerHalves (on s i) v n
+      unfolding registerHalves
       registers-equal n =
           table-equal 32 (λ j k. cond-equal 0 (on s i j) (λ t. numbers-equal files (lanePlaces n j) (lane-open n j k (lanes j t))))
 
-      first-equal : (x : Source) → firstHalves s i x ≡ firstHalves (withVectors s v) i x
+      first-equal : (x : Source) → firstHalves (on s i) (s .vectors) x ≡ firstHalves (on s i) v x
       first-equal source.None = refl
       first-equal (source.Register n) = registers-equal n
 
       second-equal : (x : Operand) → ((j : ℕ) → on s i j ≡ true → Each (λ a. ¬ HiddenByte a) (bytesRead s i x j))
-          → secondHalves memory₁ s i x ≡ secondHalves memory₂ (withVectors s v) i x
-      unfolding on bytesRead wordAddress addressOf
+          → secondHalves (on s i) (s .vectors) memory₁ (s .general) (nextPointer s i) x ≡ secondHalves (on s i) v memory₂ (s .general) (nextPointer s i) x
+      unfolding bytesRead memoryHalves
       second-equal (operand.Register n) bytes = registers-equal n
       second-equal (operand.Memory a broadcast) bytes =
           table-equal 32 (λ j k. cond-equal 0 (on s i j) (λ t. numbers-equal memories (bytesRead s i (operand.Memory a broadcast) j) (bytes j t)))
 
       gathered-equal : ((j : ℕ) → on s i j ≡ true → Each (λ a. ¬ HiddenByte a) (bytesRead s i (i .second) j))
           → gathered memory₁ s i ≡ gathered memory₂ (withVectors s v) i
-      unfolding gathered
+      unfolding gathered on
       gathered-equal bytes = λ x.
           record {
             destination = registers-equal (i .destination) x;

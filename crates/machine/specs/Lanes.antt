@@ -23,7 +23,7 @@ use Rattle.evex.specs.declared.Operand.the-variants as operand
 use Rattle.evex.specs.declared.Instruction.{Instruction}
 use Rattle.machine.specs.Lists.{table, orAll}
 use Rattle.machine.specs.State.{State, numberAt, registerAt, lanePlaces, unmaskedFlags, modeNumber}
-use Rattle.machine.specs.Memory.{on, bytesRead}
+use Rattle.machine.specs.Memory.{addressFrom, wordFrom, wordBytes, on, nextPointer}
 
 -- ---- 01, Fields of an instruction: "In register form with b set .. the length bits are the rounding mode, all six exceptions count
 -- as masked and no flag is recorded."
@@ -51,25 +51,32 @@ pub record Sources : Type 0 where
   pub first : List ℕ
   pub second : List ℕ
 
-module _ (s : State) (i : Instruction) where
-  -- 32 halves, lane j's by f where it is on
-  abbrev pub lanesOn : (ℕ → ℕ) → List ℕ
-  lanesOn f = table 32 (λ j. cond (on s i j) (f j) 0)
+-- 32 halves, lane j's by f where it is on
+abbrev pub lanesOn : (ℕ → Bool) → (ℕ → ℕ) → List ℕ
+lanesOn on f = table 32 (λ j. cond (on j) (f j) 0)
 
-  unfoldable pub registerHalves : ℕ → List ℕ
-  registerHalves n = lanesOn (λ j. numberAt (s .vectors) (lanePlaces n j))
+unfoldable pub registerHalves : (ℕ → Bool) → List ℕ → ℕ → List ℕ
+registerHalves on vectors n = lanesOn on (λ j. numberAt vectors (lanePlaces n j))
 
-  abbrev pub firstHalves : Source → List ℕ
-  firstHalves source.None = table 32 (λ j. 0)
-  firstHalves (source.Register n) = registerHalves n
+-- the words from an address on, or with broadcast the one there
+unfoldable pub memoryHalves : (ℕ → Bool) → List ℕ → ℕ → Bool → List ℕ
+memoryHalves on memory address broadcast = lanesOn on (λ j. numberAt memory (wordBytes (wordFrom address broadcast j)))
 
-module _ (memory : List ℕ) (s : State) (i : Instruction) where
-  abbrev pub secondHalves : Operand → List ℕ
-  secondHalves (operand.Register n) = registerHalves s i n
-  secondHalves (operand.Memory a broadcast) = lanesOn s i (λ j. numberAt memory (bytesRead s i (operand.Memory a broadcast) j))
+abbrev pub firstHalves : (ℕ → Bool) → List ℕ → Source → List ℕ
+firstHalves on vectors source.None = table 32 (λ j. 0)
+firstHalves on vectors (source.Register n) = registerHalves on vectors n
 
-  unfoldable pub gathered : Sources
-  gathered = record { destination = registerHalves s i (i .destination); first = firstHalves s i (i .first); second = secondHalves (i .second) }
+abbrev pub secondHalves : (ℕ → Bool) → List ℕ → List ℕ → List ℕ → ℕ → Operand → List ℕ
+secondHalves on vectors memory general next (operand.Register n) = registerHalves on vectors n
+secondHalves on vectors memory general next (operand.Memory a broadcast) = memoryHalves on memory (addressFrom general next a) broadcast
+
+unfoldable pub gathered : List ℕ → State → Instruction → Sources
+gathered memory s i =
+    record {
+      destination = registerHalves (on s i) (s .vectors) (i .destination);
+      first = firstHalves (on s i) (s .vectors) (i .first);
+      second = secondHalves (on s i) (s .vectors) memory (s .general) (nextPointer s i) (i .second);
+    }
 
 -- ---- a lane: "Products: 132 dest*src3+src2; 213 src2*dest+src3; 231 src2*src3+dest", d the destination's lane, f and x those of the
 -- first source (src2) and of the second (src3)

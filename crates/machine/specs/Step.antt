@@ -1,5 +1,5 @@
 -- Document 01, 'Numbers the engine gets back': the answer, what it leaves, a step, a run.
-use Prim.Native.Nat.{ℕ, _+_, _%_, _^_}
+use Prim.Native.Nat.{ℕ, _^_}
 use mathlib.Core.Bool.{Bool, false, cond, not}
 use mathlib.Core.List.{List, [], _∷_, _++_, map}
 use lib.Dec.{eqb, leb}
@@ -10,7 +10,7 @@ use Rattle.evex.specs.declared.Instruction.{Instruction}
 use Rattle.evex.specs.declared.Decoded.{Decoded}
 use Rattle.evex.specs.declared.Decoded.the-variants.{Fields, Refused}
 use Rattle.machine.specs.State.{State, Stepped}
-use Rattle.machine.specs.Memory.{needsOutside}
+use Rattle.machine.specs.Memory.{nextPointer, needsOutside}
 use Rattle.machine.specs.Lanes.{gathered, results, raisesUnmasked, controlAfter, vectorsAfter}
 
 -- ---- the order of the answers: "1; 2; no bytes (3); byte 0 (4); .. 6; 7; 8"
@@ -81,7 +81,7 @@ completed memory s i =
             masks = s .masks;
             general = s .general;
             control = controlAfter s i (gathered memory s i);
-            pointer = (s .pointer + i .size) % 2 ^ 64;
+            pointer = nextPointer s i;
           };
     }
 

@@ -1,6 +1,6 @@
 -- What the parts of a step compute is what the machine defines.
 -- Assumes nothing.
-use Prim.Native.Nat.{ℕ, _+_, _/_, _%_, _^_, _<_}
+use Prim.Native.Nat.{ℕ, _/_, _%_, _^_, _<_}
 use mathlib.Core.Path.{_≡_, refl, sym, ap, _∙_}
 use mathlib.Core.Bool.{Bool, true, false, cond, not, _&&_, and-false}
 use mathlib.Core.List.{List, [], _∷_}
@@ -10,13 +10,6 @@ use lib.Dec.{leb, ltb, eqb}
 use lib.Bits.{bitAnd}
 use lib.ListN.{length, getD}
 use lib.Seq.{paste}
-use Rattle.evex.specs.declared.Base.{Base}
-use Rattle.evex.specs.declared.Base.the-variants as base
-use Rattle.evex.specs.declared.Index.{Index}
-use Rattle.evex.specs.declared.Index.the-variants as index
-use Rattle.evex.specs.declared.Address.{Address}
-use Rattle.evex.specs.declared.Source.{Source}
-use Rattle.evex.specs.declared.Source.the-variants as source
 use Rattle.evex.specs.declared.Operand.{Operand}
 use Rattle.evex.specs.declared.Operand.the-variants as operand
 use Rattle.evex.specs.declared.Instruction.{Instruction}
@@ -25,56 +18,25 @@ use Rattle.evex.specs.Decode.{decoded}
 use Rattle.half.specs.Operations.{some}
 use Rattle.machine.specs.Lists.{table}
 use Rattle.machine.specs.State.{State, Stepped, registerAt, steppedOf}
-use Rattle.machine.specs.Memory.{on, indexValue, baseValue, wrapped, addressOf, wordAddress, bytesRead, needsOutside}
+use Rattle.machine.specs.Memory.{isOn, on, nextPointer, bytesRead, needsOutside}
 use Rattle.machine.specs.Lanes.{Sources, roundingMode, unmasked, underflowUnmasked, recorded, gathered, registerHalves, firstHalves, secondHalves, results, raised, raisesUnmasked, controlAfter, newRegister, vectorsAfter}
 use Rattle.machine.specs.Step.{refused, stopped, completed, step}
 use Rattle.machine.proofs.Ends.{refuses-memory, stops, completes}
 use Rattle.machine.proofs.Tables.{table-equal, getD-table}
 use Rattle.step.specs.declared.lanes.Results.{Results}
-use Rattle.step.specs.Work.{onBy, keptBy, baseFrom, indexFrom, addressFrom, wordsOutside, outside, halvesWhere, registerWhere, firstWhere, secondWhere, resultsWhere, storedBytes, storedFile, Left, leftOf, finished, executed}
+use Rattle.step.specs.Work.{keptBy, wordsOutside, outside, resultsWhere, storedBytes, storedFile, Left, leftOf, finished, executed}
 
--- ---- addresses: the next instruction's pointer may be cut to 64 bits before the sum
+-- ---- 7
 
-module _ (s : State) (i : Instruction) (next : ℕ) (n : next ≡ (s .pointer + i .size) % 2 ^ 64) where
-  from-base : (b : Base) (x y : ℕ) → (baseFrom (s .general) next b + x + y) % 2 ^ 64 ≡ (baseValue s i b + x + y) % 2 ^ 64
-  from-base base.None x y = refl
-  from-base (base.General k) x y = refl
-  from-base base.NextInstruction x y = rw n (omega arith)
+nowhere-off : (p : ℕ → Bool) (l : List ℕ) → some (λ j. p j && false) l ≡ false
+nowhere-off p [] = refl
+nowhere-off p (j ∷ l) = rw (and-false (p j)) (nowhere-off p l)
 
-  index-is : (k : Index) → indexFrom (s .general) k ≡ indexValue s i k
-  index-is index.None = refl
-  index-is (index.Scaled k scale) = refl
-
-  address-is : (a : Address) → addressFrom (s .general) next a ≡ addressOf s i a
-  unfolding addressFrom addressOf
-  address-is a = rw (← index-is (a .index)) (from-base (a .base) (indexFrom (s .general) (a .index)) (wrapped (a .displacement)))
-
-  -- ---- 7
-
-  nowhere-off : (p : ℕ → Bool) (l : List ℕ) → some (λ j. p j && false) l ≡ false
-  nowhere-off p [] = refl
-  nowhere-off p (j ∷ l) = rw (and-false (p j)) (nowhere-off p l)
-
-  outside-by : (length : ℕ) (o : Operand)
-      → outside (on s i) length (s .general) next o ≡ some (λ j. on s i j && some (λ a. leb length a) (bytesRead s i o j)) (table 32 (λ j. j))
-  unfolding bytesRead wordAddress wordsOutside
-  outside-by length (operand.Register r) = sym (nowhere-off (on s i) (table 32 (λ j. j)))
-  outside-by length (operand.Memory a broadcast) = rw (address-is a)
-
-  -- ---- sources
-
-  register-is : (r : ℕ) → registerWhere (on s i) (s .vectors) r ≡ registerHalves s i r
-  unfolding registerHalves halvesWhere
-  register-is r = refl
-
-  first-is : (o : Source) → firstWhere (on s i) (s .vectors) o ≡ firstHalves s i o
-  first-is source.None = refl
-  first-is (source.Register r) = register-is r
-
-  second-is : (memory : List ℕ) (o : Operand) → secondWhere (on s i) (s .vectors) memory (s .general) next o ≡ secondHalves memory s i o
-  unfolding halvesWhere bytesRead wordAddress
-  second-is memory (operand.Register r) = register-is r
-  second-is memory (operand.Memory a broadcast) = rw (address-is a)
+outside-by : (s : State) (i : Instruction) (length : ℕ) (o : Operand)
+    → outside (on s i) length (s .general) (nextPointer s i) o ≡ some (λ j. on s i j && some (λ a. leb length a) (bytesRead s i o j)) (table 32 (λ j. j))
+unfolding bytesRead wordsOutside
+outside-by s i length (operand.Register r) = sym (nowhere-off (on s i) (table 32 (λ j. j)))
+outside-by s i length (operand.Memory a broadcast) = refl
 
 -- ---- lanes, and the destination: a result is 0 where its lane is off
 
@@ -114,15 +76,15 @@ either : (s : State) (t : Bool) (x y : Left) → joined s (cond t x y) ≡ cond 
 either s true x y = refl
 either s false x y = refl
 
-module _ (memory : List ℕ) (s : State) (i : Instruction) (p : ℕ → Bool) (e : p ≡ onBy (s .masks) (i .mask) (i .lanes))
-    (next : ℕ) (n : next ≡ (s .pointer + i .size) % 2 ^ 64) where
+module _ (memory : List ℕ) (s : State) (i : Instruction) (p : ℕ → Bool) (e : p ≡ isOn (s .masks) (i .mask) (i .lanes))
+    (next : ℕ) (n : next ≡ nextPointer s i) where
   lanes-are : p ≡ on s i
   unfolding on
   lanes-are = e
 
   outside-is : outside p (length memory) (s .general) next (i .second) ≡ needsOutside s i (length memory)
   unfolding needsOutside
-  outside-is = rw lanes-are (outside-by s i next n (length memory) (i .second))
+  outside-is = rw (lanes-are, n) (outside-by s i (length memory) (i .second))
 
   pub refuses : outside p (length memory) (s .general) next (i .second) ≡ true → refused 7 s ≡ executed memory s i
   unfolding executed
@@ -130,12 +92,12 @@ module _ (memory : List ℕ) (s : State) (i : Instruction) (p : ℕ → Bool) (e
 
   module _ (inside : outside p (length memory) (s .general) next (i .second) ≡ false) (r : Results)
       (computed : r ≡ resultsWhere p (i .operation) (roundingMode (i .rounding) (s .control)) (underflowUnmasked (i .rounding) (s .control))
-      (registerWhere p (s .vectors) (i .destination)) (firstWhere p (s .vectors) (i .first))
-      (secondWhere p (s .vectors) memory (s .general) next (i .second))) where
+      (registerHalves p (s .vectors) (i .destination)) (firstHalves p (s .vectors) (i .first))
+      (secondHalves p (s .vectors) memory (s .general) next (i .second))) where
     computed-is : r ≡ record { halves = results s i (gathered memory s i); flags = raised s i (gathered memory s i) }
     unfolding gathered
     computed-is =
-        rw (computed, lanes-are, register-is s i next n (i .destination), first-is s i next n (i .first), second-is s i next n memory (i .second))
+        rw (computed, lanes-are, n)
         (results-is s i (gathered memory s i))
 
     pub finishes : {l : Left} → l ≡ finished p i r next (s .vectors) (s .control) (s .pointer) → joined s l ≡ executed memory s i
@@ -146,7 +108,7 @@ module _ (memory : List ℕ) (s : State) (i : Instruction) (p : ℕ → Bool) (e
         rw (left, ← outside-is, inside, computed-is, lanes-are, stored-is s i g, n)
         (either s (not (eqb (bitAnd (raised s i g) (unmasked (i .rounding) (s .control))) 0))
         (leftOf (record { number = 8; length = 0 }) (s .vectors) control (s .pointer))
-        (leftOf (record { number = 0; length = i .size }) (vectorsAfter s i (results s i g)) control ((s .pointer + i .size) % 2 ^ 64)))
+        (leftOf (record { number = 0; length = i .size }) (vectorsAfter s i (results s i g)) control (nextPointer s i)))
 
 -- ---- a step of a decoded instruction
 

@@ -14,7 +14,8 @@ use lib.Dec.{eqb, ltb}
 use lib.ListN.{getD}
 use lib.Pow.{pow-pos, pow-mono, ones-lt, ones-split}
 use Rattle.evex.specs.Bits.{isSet}
-use Rattle.step.specs.Work.{onBy, keptBy}
+use Rattle.machine.specs.Memory.{isOn}
+use Rattle.step.specs.Work.{keptBy}
 
 -- ---- the bits of `&` and `^`
 
@@ -68,10 +69,10 @@ same-sets : {f g : ℕ → Bool} → ((j : ℕ) → f j ≡ g j) → f ≡ g
 same-sets h = λ i j. h j i
 
 -- every lane below the number of lanes, or those whose bit in the mask is one besides
-pub on-all : (masks : List ℕ) (mask lanes : ℕ) → mask ≡ 0 → isSet (2 ^ lanes - 1) ≡ onBy masks mask lanes
+pub on-all : (masks : List ℕ) (mask lanes : ℕ) → mask ≡ 0 → isSet (2 ^ lanes - 1) ≡ isOn masks mask lanes
 on-all masks mask lanes e = same-sets (λ j. rw (ones-bit lanes j, e) (sym (and-true (ltb j lanes))))
 
-pub on-some : (masks : List ℕ) (mask lanes : ℕ) → (mask ≡ 0 → ⊥) → isSet (bitAnd (getD masks mask 0) (2 ^ lanes - 1)) ≡ onBy masks mask lanes
+pub on-some : (masks : List ℕ) (mask lanes : ℕ) → (mask ≡ 0 → ⊥) → isSet (bitAnd (getD masks mask 0) (2 ^ lanes - 1)) ≡ isOn masks mask lanes
 on-some masks mask lanes n =
     same-sets
     (λ j. rw (and-bit (getD masks mask 0) (2 ^ lanes - 1) j, ones-bit lanes j, ne-eqb mask 0 n) (and-comm (isSet (getD masks mask 0) j) (ltb j lanes)))

@@ -7,7 +7,8 @@ use native.Mathlib.Omega.{arith}
 use borrow.Author.Tests.{leb-false}
 use lib.Dec.{leb}
 use Rattle.half.specs.Operations.{some}
-use Rattle.step.specs.Work.{wordFrom, wordPlaces, wordsOutside}
+use Rattle.machine.specs.Memory.{wordFrom, wordBytes}
+use Rattle.step.specs.Work.{wordsOutside}
 use Rattle.step.proofs.Filling.{nowhere}
 
 neither : (a b : Bool) → (a || b) ≡ false → (a ≡ false) × (b ≡ false)
@@ -18,7 +19,7 @@ pub record Inside (length w : ℕ) : Type 0 where
   pub below : w + 1 < length
   pub plain : (w + 1) % 2 ^ 64 ≡ w + 1
 
-word-inside : (length w : ℕ) → length < 2 ^ 64 → some (λ a. leb length a) (wordPlaces w) ≡ false → Inside length w
+word-inside : (length w : ℕ) → length < 2 ^ 64 → some (λ a. leb length a) (wordBytes w) ≡ false → Inside length w
 word-inside length w h e =
     let both = neither _ _ e in
     let first : w < length = leb-false length w (both .0) in
@@ -30,4 +31,4 @@ pub inside : (on : ℕ → Bool) (length at : ℕ) (broadcast : Bool) (j : ℕ) 
 unfolding wordsOutside
 inside on length at broadcast j l e h t =
     word-inside length (wordFrom at broadcast j) l
-    (rw t at (nowhere (λ k. on k && some (λ a. leb length a) (wordPlaces (wordFrom at broadcast k))) 32 j e h))
+    (rw t at (nowhere (λ k. on k && some (λ a. leb length a) (wordBytes (wordFrom at broadcast k))) 32 j e h))

@@ -6,8 +6,8 @@ ghost use lib.Dec.{leb};
 ghost use Rattle.evex.specs.Bits.{isSet};
 ghost use Rattle.evex.proofs.Bounds.{BaseIn, IndexIn, OperandIn};
 ghost use Rattle.half.specs.Operations.{some};
-ghost use Rattle.machine.specs.Memory.{wrapped};
-ghost use Rattle.step.specs.Work.{baseFrom, indexFrom, addressFrom, wordFrom, wordPlaces, wordsOutside, outside};
+ghost use Rattle.machine.specs.Memory.{wrapped, baseValue, indexValue, addressFrom, wordFrom, wordBytes};
+ghost use Rattle.step.specs.Work.{wordsOutside, outside};
 use super::mask::has;
 use evex::Address;
 use evex::Base;
@@ -27,7 +27,7 @@ fn wrapped(d: i32) -> u64
 
 fn base_value(base: Base, general: &[u64; 16], next: u64) -> u64
     requires { ⌜ BaseIn base ⌝ }
-    ensures { λ r. ⌜ r ≡ baseFrom (now (general .entry)) next base ⌝ }
+    ensures { λ r. ⌜ r ≡ baseValue (now (general .entry)) next base ⌝ }
 {
     match base {
         Base::None => 0,
@@ -38,7 +38,7 @@ fn base_value(base: Base, general: &[u64; 16], next: u64) -> u64
 
 fn index_value(index: Index, general: &[u64; 16]) -> u64
     requires { ⌜ IndexIn index ⌝ }
-    ensures { λ r. ⌜ r ≡ indexFrom (now (general .entry)) index % 2 ^ 64 ⌝ }
+    ensures { λ r. ⌜ r ≡ indexValue (now (general .entry)) index % 2 ^ 64 ⌝ }
 {
     match index {
         Index::None => 0,
@@ -72,7 +72,7 @@ pub(crate) fn word_from(at: u64, broadcast: bool, j: usize) -> u64
 
 // One of a word's two bytes is outside a memory of this length.
 fn word_outside(length: u64, at: u64) -> bool
-    ensures { λ r. ⌜ r ≡ some (λ a. leb length a) (wordPlaces at) ⌝ }
+    ensures { λ r. ⌜ r ≡ some (λ a. leb length a) (wordBytes at) ⌝ }
 {
     (length <= at) | (length <= std::num::wrapping_add_u64(at, 1))
 }
@@ -80,7 +80,7 @@ fn word_outside(length: u64, at: u64) -> bool
 // Lane j is on, and reads outside.
 fn lane_outside(on: u64, length: u64, at: u64, broadcast: bool, j: usize) -> bool
     requires { ⌜ j < 32 ⌝ }
-    ensures { λ r. ⌜ r ≡ (isSet on j && some (λ a. leb length a) (wordPlaces (wordFrom at broadcast j))) ⌝ }
+    ensures { λ r. ⌜ r ≡ (isSet on j && some (λ a. leb length a) (wordBytes (wordFrom at broadcast j))) ⌝ }
 {
     has(on, j) & word_outside(length, word_from(at, broadcast, j))
 }

@@ -2,7 +2,8 @@
 ghost use mathlib.Core.Path.{_≡_};
 ghost use Prim.Native.Nat.{_-_, _^_, _≤_, _<_};
 ghost use Rattle.evex.specs.Bits.{isSet};
-ghost use Rattle.step.specs.Work.{onBy, keptBy};
+ghost use Rattle.machine.specs.Memory.{isOn};
+ghost use Rattle.step.specs.Work.{keptBy};
 
 pub(crate) fn has(bits: u64, j: usize) -> bool
     requires { ⌜ j < 64 ⌝ }
@@ -22,7 +23,7 @@ fn below(lanes: usize) -> u64
 // The lanes that are on.
 pub(crate) fn lanes_on(masks: &[u64; 8], mask: usize, lanes: usize) -> u64
     requires { ⌜ (mask < 8) × (lanes ≤ 32) ⌝ }
-    ensures { λ r. ⌜ isSet r ≡ onBy (now (masks .entry)) mask lanes ⌝ }
+    ensures { λ r. ⌜ isSet r ≡ isOn (now (masks .entry)) mask lanes ⌝ }
 {
     if mask == 0 {
         return below(lanes);

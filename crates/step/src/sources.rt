@@ -7,7 +7,9 @@ ghost use lib.ListN.{length};
 ghost use Rattle.evex.specs.Bits.{isSet};
 ghost use Rattle.evex.proofs.Bounds.{SourceIn, OperandIn};
 ghost use Rattle.machine.specs.State.{numberAt, lanePlaces};
-ghost use Rattle.step.specs.Work.{wordFrom, wordPlaces, wordsOutside, outside, registerWhere, memoryWhere, firstWhere, secondWhere};
+ghost use Rattle.machine.specs.Memory.{wordFrom, wordBytes};
+ghost use Rattle.machine.specs.Lanes.{registerHalves, memoryHalves, firstHalves, secondHalves};
+ghost use Rattle.step.specs.Work.{wordsOutside, outside};
 use super::address::address;
 use super::address::word_from;
 use super::mask::has;
@@ -40,7 +42,7 @@ fn register_half(on: u64, vectors: &[u8], n: usize, j: usize) -> u16
 
 pub(crate) fn register_halves(on: u64, vectors: &[u8], n: usize) -> [u16; 32]
     requires { ⌜ (length (now vectors) ≡ 2048) × (n < 32) ⌝ }
-    ensures { λ r. ⌜ r ≡ registerWhere (isSet on) (now (vectors .entry)) n ⌝ }
+    ensures { λ r. ⌜ r ≡ registerHalves (isSet on) (now (vectors .entry)) n ⌝ }
 {
     let mut halves = [0u16; 32];
     for j in 0..32 {
@@ -51,7 +53,7 @@ pub(crate) fn register_halves(on: u64, vectors: &[u8], n: usize) -> [u16; 32]
 
 fn memory_half(on: u64, memory: &[u8], at: u64, broadcast: bool, j: usize) -> u16
     requires { ⌜ (wordsOutside (isSet on) (length (now memory)) at broadcast ≡ false) × (j < 32) ⌝ }
-    ensures { λ r. ⌜ r ≡ cond (isSet on j) (numberAt (now (memory .entry)) (wordPlaces (wordFrom at broadcast j))) 0 ⌝ }
+    ensures { λ r. ⌜ r ≡ cond (isSet on j) (numberAt (now (memory .entry)) (wordBytes (wordFrom at broadcast j))) 0 ⌝ }
 {
     if has(on, j) {
         return half_at(memory, word_from(at, broadcast, j) as usize);
@@ -61,7 +63,7 @@ fn memory_half(on: u64, memory: &[u8], at: u64, broadcast: bool, j: usize) -> u1
 
 fn memory_halves(on: u64, memory: &[u8], at: u64, broadcast: bool) -> [u16; 32]
     requires { ⌜ wordsOutside (isSet on) (length (now memory)) at broadcast ≡ false ⌝ }
-    ensures { λ r. ⌜ r ≡ memoryWhere (isSet on) (now (memory .entry)) at broadcast ⌝ }
+    ensures { λ r. ⌜ r ≡ memoryHalves (isSet on) (now (memory .entry)) at broadcast ⌝ }
 {
     let mut halves = [0u16; 32];
     for j in 0..32 {
@@ -72,7 +74,7 @@ fn memory_halves(on: u64, memory: &[u8], at: u64, broadcast: bool) -> [u16; 32]
 
 pub(crate) fn first_halves(on: u64, vectors: &[u8], first: Source) -> [u16; 32]
     requires { ⌜ (length (now vectors) ≡ 2048) × SourceIn first ⌝ }
-    ensures { λ r. ⌜ r ≡ firstWhere (isSet on) (now (vectors .entry)) first ⌝ }
+    ensures { λ r. ⌜ r ≡ firstHalves (isSet on) (now (vectors .entry)) first ⌝ }
 {
     match first {
         Source::None => [0u16; 32],
@@ -89,7 +91,7 @@ pub(crate) fn second_halves(
     second: Operand,
 ) -> [u16; 32]
     requires { ⌜ (length (now vectors) ≡ 2048) × OperandIn second × (outside (isSet on) (length (now memory)) (now general) next second ≡ false) ⌝ }
-    ensures { λ r. ⌜ r ≡ secondWhere (isSet on) (now (vectors .entry)) (now (memory .entry)) (now (general .entry)) next second ⌝ }
+    ensures { λ r. ⌜ r ≡ secondHalves (isSet on) (now (vectors .entry)) (now (memory .entry)) (now (general .entry)) next second ⌝ }
 {
     match second {
         Operand::Register(n) => register_halves(on, vectors, n),

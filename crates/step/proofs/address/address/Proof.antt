@@ -4,7 +4,7 @@ use mir.Syntax.{w32}
 use mir.Facts.{toZ-ofZ}
 use Prim.Native.Nat.{_<_, _^_}
 use native.Mathlib.Omega.{arith}
-use Rattle.step.specs.Work.{addressFrom}
+use Rattle.machine.specs.Memory.{addressFrom}
 use borrow.Author.Needs.{needs}
 use Rattle.step.proofs.address.address.Statement.{statement}
 use Rattle.step.proofs.address.address.Tie as tie

@@ -5,13 +5,14 @@ use native.Mathlib.Omega.{arith}
 use lib.Dec.{leb}
 use Rattle.evex.specs.Bits.{isSet}
 use Rattle.half.specs.Operations.{some}
-use Rattle.step.specs.Work.{wordFrom, wordPlaces, wordsOutside}
+use Rattle.machine.specs.Memory.{wordFrom, wordBytes}
+use Rattle.step.specs.Work.{wordsOutside}
 use Rattle.step.proofs.Filling.{Found, found-none, found-more, found-all}
 use Rattle.step.proofs.address.words_outside.Statement.{statement}
 use Rattle.step.proofs.address.words_outside.Tie as tie
 
 abbrev Inv-loop : tie.InvT-loop
-Inv-loop on length at broadcast found₀ j₀ found j = Found 32 (λ k. isSet on k && some (λ a. leb length a) (wordPlaces (wordFrom at broadcast k))) found j
+Inv-loop on length at broadcast found₀ j₀ found j = Found 32 (λ k. isSet on k && some (λ a. leb length a) (wordBytes (wordFrom at broadcast k))) found j
 
 abbrev μ-loop : tie.MeasureT-loop
 μ-loop on length at broadcast found₀ j₀ found j = 32 - j

@@ -2,7 +2,7 @@
 use mathlib.Core.Path.{_∙_, sym}
 use lib.ListN.{length}
 use Rattle.evex.specs.Bits.{isSet}
-use Rattle.step.specs.Work.{wordFrom}
+use Rattle.machine.specs.Memory.{wordFrom}
 use Rattle.step.proofs.Words.{Inside, inside}
 use borrow.Author.Needs.{needs}
 use Rattle.step.proofs.sources.memory_half.Statement.{statement}

@@ -5,13 +5,14 @@ use mathlib.Core.Bool.{cond}
 use native.Mathlib.Omega.{arith}
 use Rattle.evex.specs.Bits.{isSet}
 use Rattle.machine.specs.State.{numberAt}
-use Rattle.step.specs.Work.{wordFrom, wordPlaces, halvesWhere}
+use Rattle.machine.specs.Memory.{wordFrom, wordBytes}
+use Rattle.machine.specs.Lanes.{memoryHalves}
 use Rattle.step.proofs.Filling.{Filled, none, more, all}
 use Rattle.step.proofs.sources.memory_halves.Statement.{statement}
 use Rattle.step.proofs.sources.memory_halves.Tie as tie
 
 abbrev Inv-loop : tie.InvT-loop
-Inv-loop on memory at broadcast halves₀ j₀ halves j = Filled (λ k. cond (isSet on k) (numberAt memory (wordPlaces (wordFrom at broadcast k))) 0) 32 halves₀ halves j
+Inv-loop on memory at broadcast halves₀ j₀ halves j = Filled (λ k. cond (isSet on k) (numberAt memory (wordBytes (wordFrom at broadcast k))) 0) 32 halves₀ halves j
 
 abbrev μ-loop : tie.MeasureT-loop
 μ-loop on memory at broadcast halves₀ j₀ halves j = 32 - j
@@ -38,7 +39,7 @@ loop-again : tie.Need-loop-again Inv-loop μ-loop
 loop-again c = more (c .before .before .loop .inv) (omega arith) (c .memory-half .ensures)
 
 returns : tie.Need-returns Inv-loop μ-loop
-unfolding halvesWhere
+unfolding memoryHalves
 returns c = all (c .before .loop .inv) (c .loop-test .left)
 
 pub memory-halves-spec : {M : Type 1} → statement M

@@ -5,7 +5,7 @@ use mathlib.Core.Bool.{cond}
 use native.Mathlib.Omega.{arith}
 use Rattle.evex.specs.Bits.{isSet}
 use Rattle.machine.specs.State.{numberAt, lanePlaces}
-use Rattle.step.specs.Work.{halvesWhere}
+use Rattle.machine.specs.Lanes.{registerHalves}
 use Rattle.step.proofs.Filling.{Filled, none, more, all}
 use Rattle.step.proofs.sources.register_halves.Statement.{statement}
 use Rattle.step.proofs.sources.register_halves.Tie as tie
@@ -38,7 +38,7 @@ loop-again : tie.Need-loop-again Inv-loop μ-loop
 loop-again c = more (c .before .before .loop .inv) (omega arith) (c .register-half .ensures)
 
 returns : tie.Need-returns Inv-loop μ-loop
-unfolding halvesWhere
+unfolding registerHalves
 returns c = all (c .before .loop .inv) (c .loop-test .left)
 
 pub register-halves-spec : {M : Type 1} → statement M
