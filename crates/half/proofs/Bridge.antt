@@ -10,7 +10,7 @@ use lib.Pow.{pow-pos, pow-mono, pow-add, shl-shr, split}
 use lib.Ieee.{size}
 use lib.Ieee.Digits.{size-lt, size-le, size-reaches}
 use borrow.Author.Tests.{le-leb, lt-leb, le-ltb, lt-ltb, eq-eqb, ne-eqb, leb-true, leb-false, ltb-true, ltb-false, eqb-true, eqb-false}
-use Rattle.half.specs.Format.{signed}
+use Rattle.half.specs.Format.{withSign}
 use Rattle.half.specs.Exact.{Magnitude, fraction, rootOf, denominator, against, whole, roundTo}
 use Rattle.half.specs.Round.{OE, UE, PE, flag, result, significant, overflows, inexact, tiny, encode, overflowFields, roundedHalf}
 use Rattle.half.specs.Work.{place}
@@ -215,8 +215,8 @@ coarse mode unmasked neg t =
     let z = place t (2 ^ (k + 2)) in
     let m = k * 1024 + steps mode neg z in
     let left = not (eqb (z % 4) 0) in
-    cond (leb 31744 m) (result (signed neg (overflowFields mode neg)) (bitOr OE PE))
-    (result (signed neg m) (bitOr (flag PE left) (flag UE ((ltb 0 t && ltb (steps mode neg t) 2048) && (unmasked || left)))))
+    cond (leb 31744 m) (result (withSign neg (overflowFields mode neg)) (bitOr OE PE))
+    (result (withSign neg m) (bitOr (flag PE left) (flag UE ((ltb 0 t && ltb (steps mode neg t) 2048) && (unmasked || left)))))
 
 -- ---- the bridge
 module _ (x : Magnitude) (t : ℕ) (hd : 0 < denominator x) (p : Placed x t) (mode : Mode) (neg : Bool) where

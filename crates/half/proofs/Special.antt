@@ -5,7 +5,7 @@ use mathlib.Core.List.{[], _∷_}
 use mathlib.Core.Path.{_≡_, refl, sym, ap, _∙_}
 use native.Mathlib.Omega.{arith}
 use lib.Bits.{bitXor, or-zero-r}
-use Rattle.half.specs.Format.{isFinite, isInfinite, isNan, isSubnormal, isZero, negative, signed, infinity}
+use Rattle.half.specs.Format.{isFinite, isInfinite, isNan, isSubnormal, isZero, negative, withSign, infinity}
 use Rattle.half.specs.Round.{DE, ZE, flag, result}
 use Rattle.half.specs.Operations.{some, nanResult, invalid, unlike, halfAdd, halfSubtract, halfMultiply, halfDivide, halfRoot, halfMultiplyAdd}
 use Rattle.half.specs.declared.Mode.{Mode}
@@ -126,7 +126,7 @@ module _ (a b : ℕ) (mode : Mode) (unmasked : Bool) where
         unfolding halfDivide
         divide-infinite i e = rw (n, v, z, i, or-zero-r, two-denormals a b d, ← e)
 
-        pub divide-by-infinite : isInfinite a ≡ false → isInfinite b ≡ true → h ≡ signed (unlike a b) 0 → result h de ≡ halfDivide mode unmasked a b
+        pub divide-by-infinite : isInfinite a ≡ false → isInfinite b ≡ true → h ≡ withSign (unlike a b) 0 → result h de ≡ halfDivide mode unmasked a b
         unfolding halfDivide
         divide-by-infinite i j e = rw (n, v, z, i, j, or-zero-r, two-denormals a b d, ← e)
 

@@ -8,7 +8,7 @@ use lib.Bits.{bitOr}
 use lib.Dec.{leb, ltb, eqb}
 use lib.Ieee.{size, nearest}
 use borrow.Author.Tests.{le-leb, lt-leb, le-ltb, lt-ltb, ltb-true, ltb-false, leb-true, leb-false, eqb-true, eqb-false}
-use Rattle.half.specs.Format.{signed}
+use Rattle.half.specs.Format.{withSign}
 use Rattle.half.specs.Exact.{fraction, against, isNearest, outward, ceiling, roundTo}
 use Rattle.half.specs.Round.{OE, UE, PE, flag, result, tiny, overflowFields, roundedHalf}
 use Rattle.half.specs.Work.{place}
@@ -95,11 +95,11 @@ module _ (mode : Mode) (neg : Bool) (t : ℕ) where
 
 -- ---- to a half
 module _ (mode : Mode) (unmasked neg : Bool) (t k z q : ℕ) (hk : k ≡ size t - 14) (hz : z ≡ place t (2 ^ (k + 2))) (hq : q ≡ steps mode neg z) where
-  pub over : 31744 ≤ k * 1024 + q → {o : Outcome} → o ≡ result (signed neg (overflowFields mode neg)) (bitOr OE PE) → o ≡ roundedHalf mode unmasked neg (fraction t (2 ^ 27))
+  pub over : 31744 ≤ k * 1024 + q → {o : Outcome} → o ≡ result (withSign neg (overflowFields mode neg)) (bitOr OE PE) → o ≡ roundedHalf mode unmasked neg (fraction t (2 ^ 27))
   unfolding coarse
   over g ho = ho ∙ sym (of-place mode unmasked neg t ∙ rw (← hk, ← hz, ← hq, le-leb 31744 (k * 1024 + q) g))
 
-  pub fit : k * 1024 + q < 31744 → {b : Bool} {h pe ue : ℕ} → b ≡ tiny mode neg (fraction t (2 ^ 27)) → h ≡ signed neg (k * 1024 + q) → pe ≡ flag PE (not (eqb (z % 4) 0))
+  pub fit : k * 1024 + q < 31744 → {b : Bool} {h pe ue : ℕ} → b ≡ tiny mode neg (fraction t (2 ^ 27)) → h ≡ withSign neg (k * 1024 + q) → pe ≡ flag PE (not (eqb (z % 4) 0))
       → ue ≡ flag UE (b && (unmasked || not (eqb (z % 4) 0))) → result h (bitOr pe ue) ≡ roundedHalf mode unmasked neg (fraction t (2 ^ 27))
   unfolding coarse
   fit g hb hh hp hu =
@@ -107,7 +107,7 @@ module _ (mode : Mode) (unmasked neg : Bool) (t k z q : ℕ) (hk : k ≡ size t 
       sym (of-place mode unmasked neg t ∙ rw (← hk, ← hz, ← hq, lt-leb 31744 (k * 1024 + q) g, ← hh, ← hp, ← b, ← hu))
 
 -- ---- zero
-pub zero-rounds : (mode : Mode) (unmasked neg : Bool) → result (signed neg 0) 0 ≡ roundedHalf mode unmasked neg (fraction 0 (2 ^ 27))
+pub zero-rounds : (mode : Mode) (unmasked neg : Bool) → result (withSign neg 0) 0 ≡ roundedHalf mode unmasked neg (fraction 0 (2 ^ 27))
 unfolding place size
 zero-rounds mode unmasked neg =
     let q : steps mode neg 0 ≡ 0 = roundTo-exact mode neg (fraction 0 4) 1 1 (omega arith) (omega arith) 0 (omega arith) in

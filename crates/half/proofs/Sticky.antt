@@ -10,7 +10,7 @@ use lib.Pow.{pow-pos, pow-add, shl-exact}
 use lib.Ieee.{size}
 use lib.Ieee.Digits.{size-lt, size-le, size-reaches}
 use borrow.Author.Tests.{lt-ltb, le-ltb, le-leb, ltb-true, ltb-false}
-use Rattle.half.specs.Format.{isFinite, isZero, units, signed}
+use Rattle.half.specs.Format.{isFinite, isZero, units, withSign}
 use Rattle.half.specs.Exact.{Magnitude, fraction, rootOf, denominator, against}
 use Rattle.half.specs.Round.{OE, PE, result, overflowFields, roundedHalf}
 use Rattle.half.specs.Operations.{exactSum}
@@ -63,7 +63,7 @@ module _ (mode : Mode) (unmasked neg : Bool) where
       sticky-fraction (n * c) (d * c) (mul-pos hd hc) ∙ ap (λ (t : ℕ). roundedHalf mode unmasked neg (fraction t (2 ^ 27))) e ∙ sym (sticky-fraction n d hd)
 
   -- a quotient of 2 ^ 20 or more overflows
-  pub far-too-large : (x y : ℕ) → 0 < y → y ≤ x / 2 ^ 20 → roundedHalf mode unmasked neg (fraction x y) ≡ result (signed neg (overflowFields mode neg)) (bitOr OE PE)
+  pub far-too-large : (x y : ℕ) → 0 < y → y ≤ x / 2 ^ 20 → roundedHalf mode unmasked neg (fraction x y) ≡ result (withSign neg (overflowFields mode neg)) (bitOr OE PE)
   unfolding coarse
   far-too-large x y hy g =
       let l : y * 2 ^ 20 ≤ x = le-div-iff-mul-le {k = 2 ^ 20} {x = y} {y = x} (omega arith) .0 g in

@@ -8,7 +8,7 @@ use native.Mathlib.Nat.{zero-div, zero-mod}
 use lib.Bits.{bitOr}
 use lib.Dec.{ltb}
 use borrow.Author.Tests.{lt-ltb, le-ltb, ltb-true, ltb-false}
-use Rattle.half.specs.Format.{isSubnormal, negative, signed, units}
+use Rattle.half.specs.Format.{isSubnormal, negative, withSign, units}
 use Rattle.half.specs.Exact.{fraction}
 use Rattle.half.specs.Round.{DE, flag, result, roundedHalf}
 use Rattle.half.specs.Operations.{some, cancelled, withDenormals, unlike, exactSum}
@@ -44,11 +44,11 @@ module _ (mode : Mode) (unmasked sx : Bool) (x : ℕ) (sy : Bool) (y k : ℕ) {m
   unfolding place
   nothing n e = rw (e, zero-div (2 ^ k), zero-mod (2 ^ k)) refl
 
-  pub no-sum : m ≡ 0 → {h : ℕ} → h ≡ cond (Bool·beq sx sy) (signed sx 0) (cancelled mode) → result h 0 ≡ exactSum mode unmasked sx x sy y (2 ^ (k + 26))
+  pub no-sum : m ≡ 0 → {h : ℕ} → h ≡ cond (Bool·beq sx sy) (withSign sx 0) (cancelled mode) → result h 0 ≡ exactSum mode unmasked sx x sy y (2 ^ (k + 26))
   unfolding exactSum
   no-sum z {h} hh = go (Bool·beq sx sy) (ltb x y) refl refl hm hh
     where
-      go : (l b : Bool) → Bool·beq sx sy ≡ l → ltb x y ≡ b → m ≡ cond l (x + y) (cond b (y - x) (x - y)) → h ≡ cond l (signed sx 0) (cancelled mode) → result h 0 ≡ exactSum mode unmasked sx x sy y (2 ^ (k + 26))
+      go : (l b : Bool) → Bool·beq sx sy ≡ l → ltb x y ≡ b → m ≡ cond l (x + y) (cond b (y - x) (x - y)) → h ≡ cond l (withSign sx 0) (cancelled mode) → result h 0 ≡ exactSum mode unmasked sx x sy y (2 ^ (k + 26))
       go true b p q em eh = rw (p, eh) (at (x + y) sx (nothing (x + y) (sym em ∙ z)) (zero-rounds mode unmasked sx))
       go false true p q em eh = let l : x < y = ltb-true _ _ q in absurd (let f : y - x ≡ 0 = sym em ∙ z in omega arith)
       go false false p q em eh =

@@ -46,11 +46,11 @@ units h = significand h * 2 ^ (exponentField h - 1)
 -- ---- halves made
 
 -- the half with this sign, and the exponent and fraction fields of m
-abbrev pub signed : Bool → ℕ → ℕ
-signed neg m = cond neg (32768 + m) m
+abbrev pub withSign : Bool → ℕ → ℕ
+withSign neg m = cond neg (32768 + m) m
 
 abbrev pub infinity : Bool → ℕ
-infinity neg = signed neg 0x7C00
+infinity neg = withSign neg 0x7C00
 
 -- the sign turned
 abbrev pub negated : ℕ → ℕ

@@ -4,7 +4,7 @@ use mathlib.Core.Bool.{Bool, false, not, _&&_, _||_, cond, Bool·beq}
 use mathlib.Core.List.{List, [], _∷_}
 use lib.Dec.{ltb}
 use lib.Bits.{bitOr}
-use Rattle.half.specs.Format.{negative, isFinite, isInfinite, isNan, isSignalling, isZero, isSubnormal, units, signed, infinity, negated, quiet}
+use Rattle.half.specs.Format.{negative, isFinite, isInfinite, isNan, isSignalling, isZero, isSubnormal, units, withSign, infinity, negated, quiet}
 use Rattle.half.specs.Exact.{fraction, rootOf}
 use Rattle.half.specs.Round.{IE, DE, ZE, flag, result, roundedHalf}
 use Rattle.half.specs.declared.Mode.{Mode}
@@ -93,7 +93,7 @@ halfDivide mode unmasked a b =
     (cond (isFinite a && not (isZero a) && isZero b) (result (infinity (unlike a b)) ZE)
     (withDenormals (a ∷ b ∷ [])
     (cond (isInfinite a) (exactly (infinity (unlike a b)))
-    (cond (isInfinite b) (exactly (signed (unlike a b) 0))
+    (cond (isInfinite b) (exactly (withSign (unlike a b) 0))
     (roundedHalf mode unmasked (unlike a b) (fraction (units a) (units b))))))))
 
 -- invalid: root of a negative non-zero. "The root of -0 is -0."

@@ -4,7 +4,7 @@ use mathlib.Core.Bool.{Bool, not, _&&_, _||_, cond}
 use lib.Dec.{leb, ltb, isEq}
 use lib.Bits.{bitOr}
 use lib.Ieee.{size}
-use Rattle.half.specs.Format.{signed}
+use Rattle.half.specs.Format.{withSign}
 use Rattle.half.specs.Exact.{Magnitude, denominator, against, whole, roundTo, isNearest, outward}
 use Rattle.half.specs.declared.Mode.{Mode}
 use Rattle.half.specs.declared.Outcome.{Outcome}
@@ -85,7 +85,7 @@ overflowFields mode neg = cond (isNearest mode || outward mode neg) 0x7C00 0x7BF
 unfoldable pub roundedHalf : Mode → Bool → Bool → Magnitude → Outcome
 roundedHalf mode unmasked neg x =
     -- "OE and PE, and infinity or 7BFF/FBFF by mode."
-    cond (overflows mode neg x) (result (signed neg (overflowFields mode neg)) (bitOr OE PE))
+    cond (overflows mode neg x) (result (withSign neg (overflowFields mode neg)) (bitOr OE PE))
     -- "PE if it differs from the exact value. UE if tiny and either UE is unmasked or PE holds."
-    (result (signed neg (encode (delivered mode neg x)))
+    (result (withSign neg (encode (delivered mode neg x)))
     (bitOr (flag PE (inexact mode neg x)) (flag UE (tiny mode neg x && (unmasked || inexact mode neg x)))))

@@ -1,7 +1,7 @@
 // The fields of a half, by shifts and masks, and halves made of them.
 ghost use mathlib.Core.Path.{_≡_};
 ghost use Prim.Native.Nat.{_<_, _-_};
-ghost use Rattle.half.specs.Format.{negative, exponentField, fractionField, isFinite, isInfinite, isNan, isSignalling, isZero, isSubnormal, significand, units, signed, quiet};
+ghost use Rattle.half.specs.Format.{negative, exponentField, fractionField, isFinite, isInfinite, isNan, isSignalling, isZero, isSubnormal, significand, units, withSign, quiet};
 ghost use Rattle.half.specs.Work.{scale};
 
 pub fn sign_of(h: u16) -> bool
@@ -89,7 +89,7 @@ pub fn magnitude(h: u16) -> u64
 
 pub fn with_sign(neg: bool, m: u16) -> u16
     requires { ⌜ m < 32768 ⌝ }
-    ensures { λ r. ⌜ r ≡ signed neg m ⌝ }
+    ensures { λ r. ⌜ r ≡ withSign neg m ⌝ }
 {
     if neg { 0x8000 + m } else { m }
 }

@@ -5,7 +5,7 @@ ghost use Prim.Native.Nat.{_+_, _-_, _*_, _^_, _<_, _≤_};
 ghost use mathlib.Core.Bool.{true, false, cond};
 ghost use lib.Bits.{bitOr};
 ghost use lib.Ieee.{size};
-ghost use Rattle.half.specs.Format.{signed};
+ghost use Rattle.half.specs.Format.{withSign};
 ghost use Rattle.half.specs.Exact.{fraction, isNearest, outward, roundTo};
 ghost use Rattle.half.specs.Round.{OE, UE, PE, flag, result, tiny, overflowFields, roundedHalf};
 ghost use Rattle.half.specs.Work.{place};
@@ -92,7 +92,7 @@ fn overflow_fields(mode: Mode, neg: bool) -> u16
 
 // What a magnitude gives that is too large.
 pub fn overflow(mode: Mode, neg: bool) -> Outcome
-    ensures { λ r. ⌜ r ≡ result (signed neg (overflowFields mode neg)) (bitOr OE PE) ⌝ }
+    ensures { λ r. ⌜ r ≡ result (withSign neg (overflowFields mode neg)) (bitOr OE PE) ⌝ }
 {
     let m = overflow_fields(mode, neg);
     Outcome {

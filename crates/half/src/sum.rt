@@ -3,7 +3,7 @@ ghost use mathlib.Core.Path.{_≡_};
 ghost use Prim.Native.Nat.{_<_, _≤_, _+_, _-_, _^_};
 ghost use mathlib.Core.Bool.{Bool, false, _&&_, cond};
 ghost use lib.Dec.{ltb};
-ghost use Rattle.half.specs.Format.{isFinite, signed};
+ghost use Rattle.half.specs.Format.{isFinite, withSign};
 ghost use Rattle.half.specs.Work.{place};
 ghost use Rattle.half.specs.Operations.{cancelled, exactSum, halfAdd, halfSubtract};
 use super::Mode;
@@ -67,7 +67,7 @@ fn place_of_sum(m: u64, k: u32) -> u64
 
 // The zero that a sum is: of like signs it has theirs.
 fn zero_sum(mode: Mode, like: bool, neg: bool) -> u16
-    ensures { λ r. ⌜ r ≡ cond like (signed neg 0) (cancelled mode) ⌝ }
+    ensures { λ r. ⌜ r ≡ cond like (withSign neg 0) (cancelled mode) ⌝ }
 {
     if like {
         return fields::with_sign(neg, 0);

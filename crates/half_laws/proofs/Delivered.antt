@@ -10,7 +10,7 @@ use lib.Dec.{leb, ltb, eqb, isLe}
 use lib.Pow.{pow-pos, pow-add}
 use lib.Ieee.{size}
 use borrow.Author.Tests.{lt-leb, leb-true, leb-false, ltb-true, ltb-false}
-use Rattle.half.specs.Format.{signed, units}
+use Rattle.half.specs.Format.{withSign, units}
 use Rattle.half.specs.Exact.{Magnitude, denominator, whole, isNearest, outward, roundTo}
 use Rattle.half.specs.Round.{OE, UE, PE, flag, result, significant, delivered, overflows, tiny, inexact, encode, overflowFields, roundedHalf}
 use Rattle.half.specs.declared.Mode.{Mode}
@@ -84,11 +84,11 @@ module _ (mode : Mode) (neg : Bool) (x : Magnitude) (hd : 0 < denominator x) whe
     below-top = leb-false (2 ^ 40) D (sym overflows-is ∙ fits)
 
     pub rounded-is : (unmasked : Bool) → roundedHalf mode unmasked neg x
-        ≡ result (signed neg (encode D)) (bitOr (flag PE (inexact mode neg x)) (flag UE (tiny mode neg x && (unmasked || inexact mode neg x))))
+        ≡ result (withSign neg (encode D)) (bitOr (flag PE (inexact mode neg x)) (flag UE (tiny mode neg x && (unmasked || inexact mode neg x))))
     unfolding roundedHalf
     rounded-is unmasked = rw fits
 
-    pub half-is : (unmasked : Bool) → halfOf mode unmasked neg x ≡ signed neg (encode D)
+    pub half-is : (unmasked : Bool) → halfOf mode unmasked neg x ≡ withSign neg (encode D)
     half-is unmasked = ap (λ (o : Outcome). o .half) (rounded-is unmasked)
 
     pub stands : (unmasked : Bool) → StandsFor neg D (halfOf mode unmasked neg x)
@@ -131,11 +131,11 @@ underflow-flag mode unmasked neg x e = rw e (go (inexact mode neg x) (tiny mode 
 
 -- ---- with overflow
 
-pub over-is : (mode : Mode) (unmasked neg : Bool) (x : Magnitude) → overflows mode neg x ≡ true → roundedHalf mode unmasked neg x ≡ result (signed neg (overflowFields mode neg)) (bitOr OE PE)
+pub over-is : (mode : Mode) (unmasked neg : Bool) (x : Magnitude) → overflows mode neg x ≡ true → roundedHalf mode unmasked neg x ≡ result (withSign neg (overflowFields mode neg)) (bitOr OE PE)
 unfolding roundedHalf
 over-is mode unmasked neg x e = rw e
 
-pub over-half : (mode : Mode) (unmasked neg : Bool) (x : Magnitude) → overflows mode neg x ≡ true → halfOf mode unmasked neg x ≡ signed neg (overflowFields mode neg)
+pub over-half : (mode : Mode) (unmasked neg : Bool) (x : Magnitude) → overflows mode neg x ≡ true → halfOf mode unmasked neg x ≡ withSign neg (overflowFields mode neg)
 over-half mode unmasked neg x e = ap (λ (o : Outcome). o .half) (over-is mode unmasked neg x e)
 
 -- the fields are those of the infinity or of the largest half
@@ -151,7 +151,7 @@ pub overflow-flag : (mode : Mode) (unmasked neg : Bool) (x : Magnitude) → rais
 unfolding roundedHalf
 overflow-flag mode unmasked neg x = go (overflows mode neg x) (inexact mode neg x) (tiny mode neg x && (unmasked || inexact mode neg x))
   where
-    go : (o i u : Bool) → eqb ((cond o (result (signed neg (overflowFields mode neg)) (bitOr OE PE)) (result (signed neg (encode (delivered mode neg x))) (bitOr (flag PE i) (flag UE u)))) .flags / OE % 2) 1 ≡ o
+    go : (o i u : Bool) → eqb ((cond o (result (withSign neg (overflowFields mode neg)) (bitOr OE PE)) (result (withSign neg (encode (delivered mode neg x))) (bitOr (flag PE i) (flag UE u)))) .flags / OE % 2) 1 ≡ o
     go true i u = refl
     go false true true = refl
     go false true false = refl

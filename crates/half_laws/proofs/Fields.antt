@@ -9,7 +9,7 @@ use lib.Pow.{pow-pos, pow-mono, pow-add, shr-mono}
 use lib.Ieee.{size}
 use lib.Ieee.Digits.{size-lt, size-le, size-reaches}
 use borrow.Author.Tests.{eq-eqb, ne-eqb, ltb-true, ltb-false}
-use Rattle.half.specs.Format.{exponentField, fractionField, isFinite, negative, signed, units}
+use Rattle.half.specs.Format.{exponentField, fractionField, isFinite, negative, withSign, units}
 use Rattle.half.specs.Round.{encode}
 use Rattle.half.proofs.Bridge.{encode-is}
 
@@ -72,42 +72,42 @@ encode-mono m n h = go (ltb (size m - 11) (size n - 11)) refl
 
 -- ---- a sign before the fields
 
-pub signed-lt : (s : Bool) (m : ℕ) → m < 32768 → signed s m < 2 ^ 16
+pub signed-lt : (s : Bool) (m : ℕ) → m < 32768 → withSign s m < 2 ^ 16
 signed-lt true m h = omega arith
 signed-lt false m h = omega arith
 
-pub signed-le : (s : Bool) (m n : ℕ) → m ≤ n → signed s m ≤ signed s n
+pub signed-le : (s : Bool) (m n : ℕ) → m ≤ n → withSign s m ≤ withSign s n
 signed-le true m n h = omega arith
 signed-le false m n h = h
 
-pub signed-even : (s : Bool) (m : ℕ) → m % 2 ≡ 0 → signed s m % 2 ≡ 0
+pub signed-even : (s : Bool) (m : ℕ) → m % 2 ≡ 0 → withSign s m % 2 ≡ 0
 signed-even true m e = omega arith
 signed-even false m e = e
 
-pub signed-negative : (s : Bool) (m : ℕ) → m < 32768 → negative (signed s m) ≡ s
+pub signed-negative : (s : Bool) (m : ℕ) → m < 32768 → negative (withSign s m) ≡ s
 signed-negative true m h = eq-eqb ((32768 + m) / 32768) 1 (omega arith)
 signed-negative false m h = ne-eqb (m / 32768) 1 (λ (e : m / 32768 ≡ 1). omega arith)
 
-signed-exponent : (s : Bool) (m : ℕ) → exponentField (signed s m) ≡ exponentField m
+signed-exponent : (s : Bool) (m : ℕ) → exponentField (withSign s m) ≡ exponentField m
 signed-exponent true m = omega arith
 signed-exponent false m = refl
 
-signed-fraction : (s : Bool) (m : ℕ) → fractionField (signed s m) ≡ fractionField m
+signed-fraction : (s : Bool) (m : ℕ) → fractionField (withSign s m) ≡ fractionField m
 signed-fraction true m = omega arith
 signed-fraction false m = refl
 
-pub signed-finite : (s : Bool) (m : ℕ) → m < 31744 → isFinite (signed s m) ≡ true
+pub signed-finite : (s : Bool) (m : ℕ) → m < 31744 → isFinite (withSign s m) ≡ true
 signed-finite s m h = rw (signed-exponent s m, ne-eqb (exponentField m) 31 (λ (e : exponentField m ≡ 31). omega arith))
 
-pub signed-units : (s : Bool) (m : ℕ) → units (signed s m) ≡ units m
+pub signed-units : (s : Bool) (m : ℕ) → units (withSign s m) ≡ units m
 unfolding units
 signed-units s m = rw (signed-exponent s m, signed-fraction s m)
 
 -- a half is its own sign and fields
-pub signed-back : (h : ℕ) → h < 2 ^ 16 → signed (negative h) (h % 32768) ≡ h
+pub signed-back : (h : ℕ) → h < 2 ^ 16 → withSign (negative h) (h % 32768) ≡ h
 signed-back h l = go (ltb h 32768) refl
   where
-    go : (b : Bool) → ltb h 32768 ≡ b → signed (negative h) (h % 32768) ≡ h
+    go : (b : Bool) → ltb h 32768 ≡ b → withSign (negative h) (h % 32768) ≡ h
     go true e =
         let k : h < 32768 = ltb-true _ _ e in
         rw (ne-eqb (h / 32768) 1 (λ (e : h / 32768 ≡ 1). omega arith)) (omega arith)

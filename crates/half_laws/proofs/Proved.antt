@@ -7,7 +7,7 @@ use native.Mathlib.Omega.{arith}
 use native.Mathlib.Nat.{lt-of-le-of-lt, le-of-eq}
 use lib.Dec.{isEq}
 use borrow.Author.Tests.{lt-leb, le-leb, leb-true}
-use Rattle.half.specs.Format.{isFinite, negative, signed, units}
+use Rattle.half.specs.Format.{isFinite, negative, withSign, units}
 use Rattle.half.specs.Exact.{Magnitude, denominator, against, whole, isNearest}
 use Rattle.half.specs.Round as round
 use Rattle.half.specs.Round.{overflows, encode}
@@ -120,7 +120,7 @@ overflow-flag mode unmasked neg x = rw (given.overflow-flag mode unmasked neg x)
   le-leb (65536 * 2 ^ round.fine x) (round.unlimited mode neg x),
 )
 
-after : (mode : Mode) (neg : Bool) → signed neg (round.overflowFields mode neg) ≡ afterOverflow mode neg
+after : (mode : Mode) (neg : Bool) → withSign neg (round.overflowFields mode neg) ≡ afterOverflow mode neg
 after Nearest false = refl
 after Nearest true = refl
 after Down false = refl
@@ -163,7 +163,7 @@ exact mode unmasked x hd h small finite e =
     let d : round.delivered mode s x ≡ units h = exactness.held mode s x hd (units h) (half-on-grid h) (equals-eq x (units h) (2 ^ 24) e) in
     let f : overflows mode s x ≡ false = given.overflows-is mode s x hd ∙ rw d (lt-leb (2 ^ 40) (units h) (finite-lt h finite)) in
     let i : against x (round.delivered mode s x) (2 ^ 24) ≡ Ordering·eq = rw d e in (
-      given.half-is mode s x hd f unmasked ∙ ap (λ (n : ℕ). signed s n) (ap encode d ∙ encode-units h) ∙ signed-back h small,
+      given.half-is mode s x hd f unmasked ∙ ap (λ (n : ℕ). withSign s n) (ap encode d ∙ encode-units h) ∙ signed-back h small,
       given.inexact-flag mode s x hd f unmasked ∙ ap (λ (o : Ordering). not (isEq o)) i,
     )
 

@@ -1,4 +1,5 @@
--- What a decoded instruction computes: sources, lanes, flags, the destination's new bytes.
+-- Document 01, 'Fields of an instruction' and 'Rounding and flags': what a decoded instruction computes. Sources, lanes, flags, the
+-- destination's new bytes.
 use Prim.Native.Nat.{ℕ, _/_, _%_, _^_}
 use mathlib.Core.Bool.{Bool, cond, not, _&&_}
 use mathlib.Core.List.{List}
@@ -51,10 +52,11 @@ pub record Sources : Type 0 where
   pub first : List ℕ
   pub second : List ℕ
 
--- 32 halves, lane j's by f where it is on
+-- 32 numbers, lane j's by f where it is on
 abbrev pub lanesOn : (ℕ → Bool) → (ℕ → ℕ) → List ℕ
 lanesOn on f = table 32 (λ j. cond (on j) (f j) 0)
 
+-- a register
 unfoldable pub registerHalves : (ℕ → Bool) → List ℕ → ℕ → List ℕ
 registerHalves on vectors n = lanesOn on (λ j. numberAt vectors (lanePlaces n j))
 
@@ -62,10 +64,12 @@ registerHalves on vectors n = lanesOn on (λ j. numberAt vectors (lanePlaces n j
 unfoldable pub memoryHalves : (ℕ → Bool) → List ℕ → ℕ → Bool → List ℕ
 memoryHalves on memory address broadcast = lanesOn on (λ j. numberAt memory (wordBytes (wordFrom address broadcast j)))
 
+-- the first source, or none: "VSQRTPH has one source (r/m)"
 abbrev pub firstHalves : (ℕ → Bool) → List ℕ → Source → List ℕ
 firstHalves on vectors source.None = table 32 (λ j. 0)
 firstHalves on vectors (source.Register n) = registerHalves on vectors n
 
+-- the second source, a register or memory
 abbrev pub secondHalves : (ℕ → Bool) → List ℕ → List ℕ → List ℕ → ℕ → Operand → List ℕ
 secondHalves on vectors memory general next (operand.Register n) = registerHalves on vectors n
 secondHalves on vectors memory general next (operand.Memory a broadcast) = memoryHalves on memory (addressFrom general next a) broadcast
@@ -104,11 +108,11 @@ module _ (s : State) (i : Instruction) (g : Sources) where
       (getD (g .destination) j 0) (getD (g .first) j 0) (getD (g .second) j 0)
 
   unfoldable pub results : List ℕ
-  results = table 32 (λ j. cond (on s i j) (laneOf j .half) 0)
+  results = lanesOn (on s i) (λ j. laneOf j .half)
 
   -- "Flags of all lanes that are on"
   unfoldable pub raised : ℕ
-  raised = orAll (table 32 (λ j. cond (on s i j) (laneOf j .flags) 0))
+  raised = orAll (lanesOn (on s i) (λ j. laneOf j .flags))
 
   -- 8: "If any exception raised by this instruction is unmasked"; "flags left from earlier steps cause nothing"
   unfoldable pub raisesUnmasked : Bool

@@ -1,4 +1,4 @@
--- Document 01, 'Fields of an instruction': which lanes are on, addresses, and the memory bytes that are needed.
+-- Document 01, 'Fields of an instruction': addresses, which lanes are on, and the memory bytes that are needed.
 use Prim.Native.Nat.{ℕ, suc, _+_, _-_, _*_, _%_, _^_}
 use mathlib.Core.Bool.{Bool, cond, _&&_, _||_}
 use mathlib.Core.List.{List, [], _∷_}
@@ -18,18 +18,12 @@ use Rattle.half.specs.Operations.{some}
 use Rattle.machine.specs.Lists.{table}
 use Rattle.machine.specs.State.{State}
 
+-- ---- "Addresses are sums modulo 2 to the 64": by the general registers, and where the next instruction stands
+
 -- a displacement modulo 2 to the 64: a signed number above -2 ^ 64
 abbrev pub wrapped : ℤ → ℕ
 wrapped (pos n) = n % 2 ^ 64
 wrapped (negsuc n) = 2 ^ 64 - suc n % 2 ^ 64
-
--- "aaa 000 means every lane is on; otherwise bit j of that mask register decides lane j." On and 'switches on' are terms of
--- document 01: "It switches on lane j when j is below its number of lanes and either aaa is 000 or bit j of mask register aaa is one
--- as the step begins."
-abbrev pub isOn : List ℕ → ℕ → ℕ → ℕ → Bool
-isOn masks aaa lanes j = ltb j lanes && (eqb aaa 0 || isSet (getD masks aaa 0) j)
-
--- ---- "Addresses are sums modulo 2 to the 64": by the general registers, and where the next instruction stands
 
 abbrev pub baseValue : List ℕ → ℕ → Base → ℕ
 baseValue general next base.None = 0
@@ -51,6 +45,14 @@ wordFrom first broadcast j = (first + cond broadcast 0 (2 * j)) % 2 ^ 64
 -- the addresses of a word's two bytes
 abbrev pub wordBytes : ℕ → List ℕ
 wordBytes a = a ∷ ((a + 1) % 2 ^ 64) ∷ []
+
+-- ---- lanes
+
+-- "aaa 000 means every lane is on; otherwise bit j of that mask register decides lane j." On and 'switches on' are terms of
+-- document 01: "It switches on lane j when j is below its number of lanes and either aaa is 000 or bit j of mask register aaa is one
+-- as the step begins."
+abbrev pub isOn : List ℕ → ℕ → ℕ → ℕ → Bool
+isOn masks aaa lanes j = ltb j lanes && (eqb aaa 0 || isSet (getD masks aaa 0) j)
 
 -- ---- of an instruction in a state
 module _ (s : State) (i : Instruction) where

@@ -1,4 +1,4 @@
--- The operations on numbers: a mode's number, and answer 9.
+-- Document 01, 'Rounding and flags' and 'Numbers the engine gets back': a mode's number, and answer 9.
 use Prim.Native.Nat.{ℕ}
 use mathlib.Core.Bool.{Bool, not, cond}
 use lib.Dec.{eqb}
@@ -9,7 +9,7 @@ use Rattle.numbers.specs.declared.ModeNumber.the-variants.{Means, Above}
 use Rattle.half.specs.declared.Outcome.{Outcome}
 use Rattle.numbers.specs.declared.Rounded.{Rounded}
 
--- 01, Rounding and flags: "Modes: 0 nearest, ties to even; 1 down; 2 up; 3 toward zero."
+-- "Modes: 0 nearest, ties to even; 1 down; 2 up; 3 toward zero."
 unfoldable pub modeOf : ℕ → ModeNumber
 modeOf n =
     cond (eqb n 0) (Means Nearest)

@@ -20,7 +20,7 @@ use Rattle.half.specs.Operations.{some}
 use Rattle.machine.specs.Lists.{table, orAll}
 use Rattle.machine.specs.State.{State, Stepped, registerAt}
 use Rattle.machine.specs.Memory.{addressFrom, wordFrom, wordBytes, needsOutside}
-use Rattle.machine.specs.Lanes.{laneResult, unmasked, recorded, gathered, raisesUnmasked}
+use Rattle.machine.specs.Lanes.{lanesOn, laneResult, unmasked, recorded, gathered, raisesUnmasked}
 use Rattle.machine.specs.Step.{refused, stopped, completed}
 use Rattle.step.specs.declared.lanes.Results.{Results}
 
@@ -50,8 +50,8 @@ module _ (on : ℕ → Bool) where
     unfoldable pub resultsWhere : Results
     resultsWhere =
         record {
-          halves = table 32 (λ j. cond (on j) (laneAt j .half) 0);
-          flags = orAll (table 32 (λ j. cond (on j) (laneAt j .flags) 0));
+          halves = lanesOn on (λ j. laneAt j .half);
+          flags = orAll (lanesOn on (λ j. laneAt j .flags));
         }
 
 -- a lane that is off

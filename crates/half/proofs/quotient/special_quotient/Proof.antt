@@ -1,6 +1,6 @@
 use mathlib.Core.Path.{sym, ap, _∙_}
 use mathlib.Core.Bool.{Bool}
-use Rattle.half.specs.Format.{infinity, signed}
+use Rattle.half.specs.Format.{infinity, withSign}
 use Rattle.half.proofs.Special.{two-nan, divide-nan, divide-invalid, divide-by-zero, divide-infinite, divide-by-infinite, divisor-infinite}
 use borrow.Author.Needs.{needs}
 use Rattle.half.proofs.quotient.special_quotient.Statement.{statement}
@@ -69,7 +69,7 @@ returns-5 c = λ mode unmasked.
     let i = sym (c .before .before .infinite3 .ensures) ∙ c .before .if4 .left in
     divide-by-infinite (c .before .before .before .before .before .before .before .before .before .before .before .before .before .before .before .before .before .args .a) (c .before .before .before .before .before .before .before .before .before .before .before .before .before .before .before .before .before .args .b) mode unmasked n (rw (← (c .before .before .before .before .before .before .before .before .before .before .before .before .before .before .zero .ensures), ← (c .before .before .before .before .before .before .before .before .before .before .before .before .before .zero2 .ensures), ← (c .before .before .before .before .before .before .before .before .before .before .before .before .infinite .ensures), ← (c .before .before .before .before .before .before .before .before .before .before .before .infinite2 .ensures)) (c .before .before .before .before .before .before .before .before .before .before .if2 .left)) (rw (← (c .before .before .before .before .before .before .before .finite .ensures), ← (c .before .before .before .before .before .before .zero3 .ensures), ← (c .before .before .before .before .before .zero4 .ensures)) (c .before .before .before .before .if3 .left)) (c .before .before .before .denormal-flag .ensures) i
     (divisor-infinite (c .before .before .before .before .before .before .before .before .before .before .before .before .before .before .before .before .before .args .a) (c .before .before .before .before .before .before .before .before .before .before .before .before .before .before .before .before .before .args .b) (c .before .before .before .before .before .before .before .before .before .before .before .before .before .before .before .before .before .pre) n (rw (← (c .before .before .before .before .before .before .before .before .before .before .before .before .before .before .zero .ensures), ← (c .before .before .before .before .before .before .before .before .before .before .before .before .before .zero2 .ensures), ← (c .before .before .before .before .before .before .before .before .before .before .before .before .infinite .ensures), ← (c .before .before .before .before .before .before .before .before .before .before .before .infinite2 .ensures)) (c .before .before .before .before .before .before .before .before .before .before .if2 .left)) (rw (← (c .before .before .before .before .before .before .before .finite .ensures), ← (c .before .before .before .before .before .before .zero3 .ensures), ← (c .before .before .before .before .before .zero4 .ensures)) (c .before .before .before .before .if3 .left)) i)
-    (c .with-sign2 .ensures ∙ ap (λ (u : Bool). signed u 0) (c .before .before .before .before .before .before .before .before .before .unlike-signs .ensures))
+    (c .with-sign2 .ensures ∙ ap (λ (u : Bool). withSign u 0) (c .before .before .before .before .before .before .before .before .before .unlike-signs .ensures))
 
 pub special-quotient-spec : {M : Type 1} → statement M
 special-quotient-spec =
