@@ -1,6 +1,6 @@
 -- Document 01, 'Saved state and the command': the saved form, version 1. House form is its term for it.
 use Prim.Native.Nat.{ℕ, zero, suc, _+_, _*_, _/_, _%_, _^_}
-use mathlib.Core.List.{List, [], _∷_, _++_}
+use mathlib.Core.List.{List, [], _∷_, _++_, flatten}
 use lib.ListN.{getD, take, drop}
 use Rattle.machine.specs.Lists.{table}
 use Rattle.machine.specs.State.{State}
@@ -21,13 +21,9 @@ valueFrom x (b ∷ bs) = valueFrom (x * 256 + b) bs
 abbrev pub numberIn : List ℕ → ℕ → ℕ → ℕ
 numberIn bytes at n = valueFrom 0 (take n (drop at bytes))
 
-abbrev pub joined : List (List ℕ) → List ℕ
-joined [] = []
-joined (l ∷ ls) = l ++ joined ls
-
 -- registers 0 to n - 1, of 64 bits each: they "stand in rising order"
 unfoldable pub registers : ℕ → List ℕ → List ℕ
-registers n values = joined (table n (λ k. big 8 (getD values k 0)))
+registers n values = flatten (table n (λ k. big 8 (getD values k 0)))
 
 -- ---- "a 4-byte length of what follows (2,253), a version byte 1, control word, pointer, general registers, masks, all big-endian, then
 -- the vector file: 2,257 bytes"
