@@ -1,7 +1,7 @@
 -- Bits of a byte, and the numbers that bytes stand for.
 use Prim.Native.Nat.{ℕ, _+_, _-_, _*_, _/_, _%_, _^_}
 use mathlib.Core.Bool.{Bool, cond}
-use mathlib.Core.List.{List}
+use mathlib.Core.List.{List, [], _∷_}
 use lib.Dec.{eqb, ltb}
 use lib.IntN.{ℤ, pos, _-ℤ_}
 use lib.ListN.{getD}
@@ -21,9 +21,14 @@ inverted x at width = 2 ^ width - 1 - bits x at width
 abbrev pub byte : List ℕ → ℕ → ℕ
 byte code at = getD code at 0
 
--- The number of four bytes from a place on, the lowest first.
+-- The little-endian number whose bytes stand at these places of a list.
+abbrev pub numberAt : List ℕ → List ℕ → ℕ
+numberAt l [] = 0
+numberAt l (p ∷ ps) = getD l p 0 + numberAt l ps * 256
+
+-- The number of four bytes from a place on.
 abbrev pub word : List ℕ → ℕ → ℕ
-word code at = byte code at + byte code (at + 1) * 2 ^ 8 + byte code (at + 2) * 2 ^ 16 + byte code (at + 3) * 2 ^ 24
+word code at = numberAt code (at ∷ (at + 1) ∷ (at + 2) ∷ (at + 3) ∷ [])
 
 -- The signed number that `width` bits stand for (two's complement).
 abbrev pub signed : ℕ → ℕ → ℤ

@@ -8,7 +8,7 @@ use native.Mathlib.Omega.{arith}
 use lib.ListN.{length, getD, List·getD-eq-default}
 use lib.Seq.{paste, length-paste}
 use Rattle.machine.specs.Lists.{Each}
-use Rattle.machine.specs.State.{numberAt}
+use Rattle.evex.specs.Bits.{numberAt}
 use Rattle.machine.specs.TwoRuns.{EqualOpen}
 use Rattle.machine.proofs.Tables.{paste-before, paste-inside, paste-after}
 

@@ -1,7 +1,6 @@
 -- Document 01, 'What the machine carries', and the control word of 'Rounding and flags'.
 use Prim.Native.Nat.{ℕ, _+_, _-_, _*_}
 use mathlib.Core.List.{List, [], _∷_}
-use lib.ListN.{getD}
 use Rattle.evex.specs.Bits.{bits}
 use Rattle.machine.specs.declared.Answer.{Answer}
 
@@ -28,11 +27,6 @@ stateOf vectors masks general control pointer =
 abbrev pub steppedOf : Answer → List ℕ → List ℕ → List ℕ → ℕ → ℕ → Stepped
 steppedOf answer vectors masks general control pointer =
     record { answer = answer; state = stateOf vectors masks general control pointer }
-
--- the little-endian number whose bytes stand at these places of a list
-abbrev pub numberAt : List ℕ → List ℕ → ℕ
-numberAt l [] = 0
-numberAt l (p ∷ ps) = getD l p 0 + numberAt l ps * 256
 
 -- where register n begins in the vector file, and the two places of its lane j
 abbrev pub registerAt : ℕ → ℕ
