@@ -118,8 +118,8 @@ fn dropped(t: u64) -> u32
     if zeros < 50 { 50 - zeros } else { 0 }
 }
 
-// t / 2^27 is tiny: 2^-14 is 8192 of these, and just below it the steps of 11 bits are 4, so what carries over an odd step into
-// the next leads from there to 2^-14.
+// t / 2^27 is tiny: 2^-14 is 8192 of these, and just below it the steps of 11 bits are 4. The last step, from 8188 on, is the odd
+// 2047: what is carried into the next leads to 2^-14.
 fn is_tiny(mode: Mode, neg: bool, t: u64) -> bool
     ensures { λ r. ⌜ r ≡ tiny mode neg (fraction t (2 ^ 27)) ⌝ }
 {
