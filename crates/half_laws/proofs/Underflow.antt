@@ -60,32 +60,27 @@ module _ (x : Magnitude) (hd : 0 < denominator x) where
           against-is x c (2 ^ 26) ∙ cmp-lt _ _ (lt-of-lt-of-le no-more (right-mono x {a = w + 1} {c = c} (omega arith)))
           ∙ sym (cmp-lt t (2 * c) (omega (arith, upto (against x w (2 ^ 26)))))
 
-  -- comparisons of x, and of its place
+  -- x compares with a / b, which is c / 2 ^ 26, as its place does with 2 c
+  module _ (c a b m : ℕ) (ea : a * m ≡ c) (eb : b * m ≡ 2 ^ 26) (hm : 0 < m) where
+    same : against x a b ≡ compare t (2 * c)
+    same = sym (against-scale x a b m hm) ∙ rw (ea, eb) (placed c)
+
+    below : Below x a b ↔ (t < 2 * c)
+    below = ((λ l. let h : t < 2 * c = rw (sym same ∙ l) at (cmp t (2 * c)) in h), (λ h. same ∙ cmp-lt t (2 * c) h))
+
+    at-most : AtMost x a b ↔ (t < 2 * c + 1)
+    at-most = ((λ l. go (compare t (2 * c)) (cmp t (2 * c)) (rw same at l)), (λ h e. let g : 2 * c < t = rw (sym same ∙ e) at (cmp t (2 * c)) in omega arith))
+      where
+        go : (o : Ordering) → Cmp o t (2 * c) → o ≢ Ordering·gt → t < 2 * c + 1
+        go Ordering·lt h n = omega arith
+        go Ordering·eq h n = omega arith
+        go Ordering·gt h n = absurd (n refl)
+
   above : Above x 0 1 ↔ (t ≢ 0)
-  above = ((λ a z. first (sym zero ∙ a) z), (λ n. zero ∙ cmp-gt t 0 (omega arith)))
+  above = ((λ a z. let h : 0 < t = rw (sym zero ∙ a) at (cmp t 0) in omega arith), (λ n. zero ∙ cmp-gt t 0 (omega arith)))
     where
       zero : against x 0 1 ≡ compare t 0
-      zero = sym (against-scale x 0 1 (2 ^ 26) (omega arith)) ∙ placed 0
-
-      first : compare t 0 ≡ Ordering·gt → t ≡ 0 → ⊥
-      first a z = let h : 0 < t = rw a at (cmp t 0) in omega arith
-
-  below : (c a b m : ℕ) → a * m ≡ c → b * m ≡ 2 ^ 26 → 0 < m → Below x a b ↔ (t < 2 * c)
-  below c a b m ea eb hm = ((λ l. let h : t < 2 * c = rw (sym same ∙ l) at (cmp t (2 * c)) in h), (λ h. same ∙ cmp-lt t (2 * c) h))
-    where
-      same : against x a b ≡ compare t (2 * c)
-      same = sym (against-scale x a b m hm) ∙ rw (ea, eb) (placed c)
-
-  at-most : (c a b m : ℕ) → a * m ≡ c → b * m ≡ 2 ^ 26 → 0 < m → AtMost x a b ↔ (t < 2 * c + 1)
-  at-most c a b m ea eb hm = ((λ l. go (compare t (2 * c)) (cmp t (2 * c)) (rw same at l)), (λ h e. let g : 2 * c < t = rw (sym same ∙ e) at (cmp t (2 * c)) in omega arith))
-    where
-      same : against x a b ≡ compare t (2 * c)
-      same = sym (against-scale x a b m hm) ∙ rw (ea, eb) (placed c)
-
-      go : (o : Ordering) → Cmp o t (2 * c) → o ≢ Ordering·gt → t < 2 * c + 1
-      go Ordering·lt h n = omega arith
-      go Ordering·eq h n = omega arith
-      go Ordering·gt h n = absurd (n refl)
+      zero = same 0 0 1 (2 ^ 26) refl refl (omega arith)
 
   -- tiny, by the place
   module _ (mode : Mode) (neg : Bool) (c : ℕ) (hc : c ≡ cond (isNearest mode) (1 + 1) (cond (outward mode neg) 3 0)) where

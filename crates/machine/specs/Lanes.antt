@@ -74,6 +74,7 @@ abbrev pub secondHalves : (ℕ → Bool) → List ℕ → List ℕ → List ℕ 
 secondHalves on vectors memory general next (operand.Register n) = registerHalves on vectors n
 secondHalves on vectors memory general next (operand.Memory a broadcast) = memoryHalves on memory (addressFrom general next a) broadcast
 
+-- of an instruction in a state
 unfoldable pub gathered : List ℕ → State → Instruction → Sources
 gathered memory s i =
     record {

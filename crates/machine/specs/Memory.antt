@@ -56,6 +56,7 @@ isOn masks aaa lanes j = ltb j lanes && (eqb aaa 0 || isSet (getD masks aaa 0) j
 
 -- ---- of an instruction in a state
 module _ (s : State) (i : Instruction) where
+  -- the instruction switches on lane j
   unfoldable pub on : ℕ → Bool
   on j = isOn (s .masks) (i .mask) (i .lanes) j
 

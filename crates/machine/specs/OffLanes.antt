@@ -1,5 +1,5 @@
--- Document 01: "Lanes that are off read nothing, fault nothing and flag nothing." The conditions of 7 and 8 and the flags, spelt out. Their proofs are in
--- proofs/OffLanes.antt; that lanes that are off read nothing is a case of TwoRuns.antt, where they are hidden.
+-- Document 01: "Lanes that are off read nothing, fault nothing and flag nothing." The conditions of 7 and 8 and the flags, spelt out.
+-- Their proofs are in proofs/OffLanes.antt; that lanes that are off read nothing is a case of TwoRuns.antt, where they are hidden.
 use Prim.Native.Nat.{ℕ, _≤_}
 use mathlib.Core.Path.{_≡_}
 use mathlib.Core.Logic.{_↔_, _≢_}
