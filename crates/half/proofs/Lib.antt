@@ -6,8 +6,11 @@ pub mod Cuts
 pub mod Bridge
 pub mod Units
 pub mod Sticky
+pub mod Digits
 pub mod Scales
 pub mod Cases
+pub mod Normals
+pub mod Radicands
 pub mod Steps
 pub mod Special
 pub mod Sums

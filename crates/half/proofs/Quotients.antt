@@ -7,31 +7,35 @@ use native.Mathlib.Nat.{div-le-self, div-lt-iff-lt-mul, mul-assoc, mul-pos}
 use lib.Dec.{leb}
 use lib.Pow.{pow-add, pow-pos}
 use borrow.Author.Tests.{leb-true, leb-false}
-use Rattle.half.specs.Format.{isZero, significand, units}
+use Rattle.half.specs.Format.{exponentField, isZero, significand, units}
 use Rattle.half.specs.Exact.{fraction}
 use Rattle.half.specs.Round.{roundedHalf}
-use Rattle.half.specs.Work.{more, place}
+use Rattle.half.specs.Operations.{unlike, halfDivide}
+use Rattle.half.specs.Work.{more, place, isNormal}
 use Rattle.half.specs.declared.Mode.{Mode}
 use Rattle.half.specs.declared.Outcome.{Outcome}
 use Rattle.half.proofs.Units.{lift, lift-le, significand-lt, significand-pos, raised-exact}
+use Rattle.half.proofs.Places.{place-ge}
 use Rattle.half.proofs.Sticky.{rounded-scale}
+use Rattle.half.proofs.Digits.{digits}
+use Rattle.half.proofs.Normals.{normal-ge, normal-lt, normal-divide}
 
--- ---- the place of x / y
-pub place-fits : (x y : ℕ) → x < 2 ^ 37 → x * 2 ^ 26 / y * 2 + 1 < 2 ^ 64
-place-fits x y h = omega (arith, div-le-self (x * 2 ^ 26) y)
+-- ---- the place of n / y
+module _ (n y : ℕ) where
+  pub place-fits : n < 2 ^ 63 → n / y * 2 + 1 < 2 ^ 64
+  place-fits h = omega (arith, div-le-self n y)
 
-module _ (x y : ℕ) where
-  pub place-even : x * 2 ^ 26 % y ≡ 0 → x * 2 ^ 26 / y * 2 ≡ place (x * 2 ^ 26) y
+  pub place-even : n % y ≡ 0 → n / y * 2 ≡ place n y
   unfolding place
   place-even e = rw e (omega arith)
 
-  pub place-odd : (x * 2 ^ 26 % y ≡ 0 → ⊥) → x * 2 ^ 26 / y * 2 + 1 ≡ place (x * 2 ^ 26) y
+  pub place-odd : (n % y ≡ 0 → ⊥) → n / y * 2 + 1 ≡ place n y
   unfolding place
-  place-odd e = let m : more (x * 2 ^ 26 % y) ≡ 1 = omega arith in rw m (omega arith)
+  place-odd e = let m : more (n % y) ≡ 1 = omega arith in rw m (omega arith)
 
-  -- below 2 ^ 20
-  pub in-range : x / 2 ^ 20 < y → min x y < 2 ^ 11 → x < 2 ^ 37
-  in-range h s = let l : x < y * 2 ^ 20 = div-lt-iff-lt-mul {k = 2 ^ 20} {x = x} {y = y} (omega arith) .0 h in omega arith
+-- x / y below 2 ^ 20
+pub in-range : (x y : ℕ) → x / 2 ^ 20 < y → min x y < 2 ^ 11 → x < 2 ^ 37
+in-range x y h s = let l : x < y * 2 ^ 20 = div-lt-iff-lt-mul {k = 2 ^ 20} {x = x} {y = y} (omega arith) .0 h in omega arith
 
 -- ---- the significand of a in the smaller one of two units
 abbrev beside : ℕ → ℕ → ℕ
@@ -67,3 +71,25 @@ module _ (a b : ℕ) {x y : ℕ} (hx : x ≡ beside a b) (hy : y ≡ beside b a)
       let c : ℕ = min (lift a) (lift b) in
       h ∙ sym (rounded-scale mode unmasked neg x y (2 ^ c) (divisor-pos z) (pow-pos c))
       ∙ rw (hx, hy, in-units a b c refl, in-units b a c (omega arith))
+
+-- ---- normal operands: t has 22 or 23 digits
+module _ (a b : ℕ) (na : isNormal a ≡ true) (nb : isNormal b ≡ true) {x y t : ℕ} (hx : (x ≡ significand a) × (1024 ≤ x) × (x < 2048)) (hy : (y ≡ significand b) × (1024 ≤ y) × (y < 2048)) (ht : t ≡ place (x * 2 ^ 21) y) where
+  y-pos : 0 < y
+  y-pos = omega (arith, hy .1)
+
+  pub quotient-ge : 2 ^ 21 ≤ t
+  quotient-ge = rw ht (place-ge (x * 2 ^ 21) y (2 ^ 20) y-pos (omega (arith, hx .1, hy .2)))
+
+  pub quotient-rounds : (mode : Mode) (unmasked : Bool) {i j : ℕ} {neg : Bool} {o : Outcome} → i ≡ exponentField a → j ≡ exponentField b → neg ≡ unlike a b
+      → o ≡ roundedHalf mode unmasked neg (fraction (t * 2 ^ (i + 35 - j)) (2 ^ 57)) → o ≡ halfDivide mode unmasked a b
+  unfolding units
+  quotient-rounds mode unmasked {i} {j} {neg} hi hj hn h =
+      let e : ℕ = i + 35 - j in
+      let c : ℕ = 56 - lift b in
+      let n : x * 2 ^ 21 * 2 ^ e ≡ x * 2 ^ lift a * 2 ^ c =
+      mul-assoc x (2 ^ 21) (2 ^ e) ∙ ap (λ (m : ℕ). x * m) (sym (pow-add 2 21 e) ∙ ap (λ (m : ℕ). 2 ^ m) (let f : 21 + e ≡ lift a + c = omega (arith, normal-ge a na, normal-ge b nb, normal-lt b nb) in f) ∙ pow-add 2 (lift a) c) ∙ sym (mul-assoc x (2 ^ lift a) (2 ^ c)) in
+      let d : y * 2 ^ 56 ≡ y * 2 ^ lift b * 2 ^ c =
+      ap (λ (m : ℕ). y * m) (ap (λ (m : ℕ). 2 ^ m) (let f : 56 ≡ lift b + c = omega (arith, normal-lt b nb) in f) ∙ pow-add 2 (lift b) c) ∙ sym (mul-assoc y (2 ^ lift b) (2 ^ c)) in
+      let s : roundedHalf mode unmasked neg (fraction (x * 2 ^ 21 * 2 ^ e) (y * 2 ^ 56)) ≡ roundedHalf mode unmasked neg (fraction (x * 2 ^ lift a) (y * 2 ^ lift b)) =
+      rw (n, d) (rounded-scale mode unmasked neg (x * 2 ^ lift a) (y * 2 ^ lift b) (2 ^ c) (mul-pos y-pos (pow-pos (lift b))) (pow-pos c)) in
+      h ∙ sym (digits mode unmasked neg (x * 2 ^ 21) y t y-pos ht (omega (arith, quotient-ge)) e 56) ∙ s ∙ rw (hx .0, hy .0, hn) (sym (normal-divide mode unmasked a b na nb))

@@ -144,7 +144,7 @@ module _ (a b : ℕ) {x y : ℕ} (hx : x ≡ significand a) (hy : y ≡ signific
   pub product-lt : x * y < 2 ^ 22
   product-lt = lt-of-le-of-lt (mul-le-mul {n₁ = x} {m₁ = y} {n₂ = 2047} {m₂ = 2047} (omega (arith, significand-lt a)) (omega (arith, significand-lt b))) (lit< tt)
 
-  joined : units a * units b ≡ x * y * 2 ^ (lift a + lift b)
+  pub joined : units a * units b ≡ x * y * 2 ^ (lift a + lift b)
   unfolding units
   joined = rw (← hx, ← hy) (mul-mul-mul-comm x (2 ^ lift a) y (2 ^ lift b) ∙ ap (λ (e : ℕ). x * y * e) (sym (pow-add 2 (lift a) (lift b))))
 

@@ -1,11 +1,11 @@
 -- Operands with a NaN, an infinity or a zero divisor: what each rule gives, by the tests that lead to it.
-use Prim.Native.Nat.{ℕ}
+use Prim.Native.Nat.{ℕ, _/_, _%_}
 use mathlib.Core.Bool.{Bool, true, false, not, _&&_, _||_, cond, Bool·beq}
 use mathlib.Core.List.{[], _∷_}
 use mathlib.Core.Path.{_≡_, refl, sym, ap, _∙_}
 use native.Mathlib.Omega.{arith}
-use lib.Bits.{bitXor, or-zero-r}
-use Rattle.half.specs.Format.{isFinite, isInfinite, isNan, isSubnormal, isZero, negative, withSign, infinity}
+use lib.Bits.{or-zero-r, xor-zero-r, xor-shr, xor-mod}
+use Rattle.half.specs.Format.{exponentField, fractionField, isFinite, isInfinite, isNan, isSubnormal, isZero, negative, withSign, infinity, negated}
 use Rattle.half.specs.Round.{DE, ZE, flag, result}
 use Rattle.half.specs.Operations.{some, nanResult, invalid, unlike, halfAdd, halfSubtract, halfMultiply, halfDivide, halfRoot, halfMultiplyAdd}
 use Rattle.half.specs.declared.Mode.{Mode}
@@ -24,6 +24,16 @@ one-nan a e f = sym (again (isNan a)) ∙ two-nan a a e f
 
 two-denormals : (a b : ℕ) {de : ℕ} → de ≡ flag DE (some isSubnormal (a ∷ b ∷ b ∷ [])) → flag DE (some isSubnormal (a ∷ b ∷ [])) ≡ de
 two-denormals a b e = rw (← again (isSubnormal b)) (sym e)
+
+-- the other sign makes no NaN
+exponent-negated : (h : ℕ) → exponentField (negated h) ≡ exponentField h
+exponent-negated h = ap (λ (n : ℕ). n % 32) (xor-shr h 0x8000 10) ∙ xor-mod (h / 1024) 32 5 ∙ xor-zero-r (h / 1024 % 32)
+
+fraction-negated : (h : ℕ) → fractionField (negated h) ≡ fractionField h
+fraction-negated h = xor-mod h 0x8000 10 ∙ xor-zero-r (h % 1024)
+
+nan-negated : (h : ℕ) → isNan (negated h) ≡ isNan h
+nan-negated h = rw (exponent-negated h, fraction-negated h)
 
 -- where one is not finite and none is a NaN, one is an infinity
 pub some-infinite : (a b c : ℕ) → (isFinite a && (isFinite b && isFinite c)) ≡ false → some isNan (a ∷ b ∷ c ∷ []) ≡ false → (isInfinite a || (isInfinite b || isInfinite c)) ≡ true
@@ -67,13 +77,16 @@ module _ (a b : ℕ) (mode : Mode) (unmasked : Bool) where
   unfolding halfAdd
   add-nan n h = rw n (h ∙ nan-again a b)
 
-  pub subtract-nan : some isNan (a ∷ b ∷ []) ≡ true → {o : Outcome} → o ≡ nanResult (a ∷ b ∷ b ∷ []) → o ≡ halfSubtract mode unmasked a b
-  unfolding halfSubtract
-  subtract-nan n h = rw n (h ∙ nan-again a b)
-
-  pub subtract-adds : some isNan (a ∷ b ∷ []) ≡ false → {o : Outcome} → o ≡ halfAdd mode unmasked a (bitXor b 0x8000) → o ≡ halfSubtract mode unmasked a b
-  unfolding halfSubtract
-  subtract-adds n h = rw n h
+  -- a difference is a sum with the sign of b turned, but that of a NaN: it comes back as it is
+  pub subtract-adds : {c : ℕ} {o : Outcome} → c ≡ cond (isNan b) b (negated b) → o ≡ halfAdd mode unmasked a c → o ≡ halfSubtract mode unmasked a b
+  unfolding halfAdd halfSubtract
+  subtract-adds {c} {o} hc h = go (isNan a) (isNan b) refl refl hc
+    where
+      go : (p q : Bool) → isNan a ≡ p → isNan b ≡ q → c ≡ cond q b (negated b) → o ≡ halfSubtract mode unmasked a b
+      go true true e f g = let k : c ≡ b = g in h ∙ rw (k, e, f)
+      go false true e f g = let k : c ≡ b = g in h ∙ rw (k, e, f)
+      go true false e f g = let k : c ≡ negated b = g in h ∙ rw (k, e, nan-negated b ∙ f, f)
+      go false false e f g = let k : c ≡ negated b = g in h ∙ rw (k, e, f)
 
   module _ (n : some isNan (a ∷ b ∷ []) ≡ false) where
     pub add-invalid : (isInfinite a && isInfinite b && unlike a b) ≡ true → {o : Outcome} → o ≡ invalid → o ≡ halfAdd mode unmasked a b

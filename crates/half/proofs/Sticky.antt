@@ -74,7 +74,10 @@ module _ (mode : Mode) (unmasked neg : Bool) where
       ∙ rw (le-leb 31744 ((size t - 14) * 1024 + steps mode neg (place t (2 ^ (size t - 14 + 2)))) (omega arith))
 
 -- ---- a sum in units that are c times as small
-ltb-scale : (x y c : ℕ) → 0 < c → ltb (x * c) (y * c) ≡ ltb x y
+pub less-scale : (a b c : ℕ) → a * c - b * c ≡ (a - b) * c
+less-scale a b c = sym (mul-comm (a - b) c ∙ mul-sub c a b ∙ rw (mul-comm c a, mul-comm c b))
+
+pub ltb-scale : (x y c : ℕ) → 0 < c → ltb (x * c) (y * c) ≡ ltb x y
 ltb-scale x y c h = go (ltb x y) refl
   where
     go : (b : Bool) → ltb x y ≡ b → ltb (x * c) (y * c) ≡ b
@@ -85,110 +88,6 @@ pub sum-scale : (mode : Mode) (unmasked sx : Bool) (x : ℕ) (sy : Bool) (y d c 
 unfolding exactSum
 sum-scale mode unmasked sx x sy y d c hd hc =
     let p : roundedHalf mode unmasked sx (fraction (x * c + y * c) (d * c)) ≡ roundedHalf mode unmasked sx (fraction (x + y) d) = rw (← add-mul x y c) (rounded-scale mode unmasked sx (x + y) d c hd hc) in
-    let q : roundedHalf mode unmasked sx (fraction (x * c - y * c) (d * c)) ≡ roundedHalf mode unmasked sx (fraction (x - y) d) = rw (less x y) (rounded-scale mode unmasked sx (x - y) d c hd hc) in
-    let r : roundedHalf mode unmasked sy (fraction (y * c - x * c) (d * c)) ≡ roundedHalf mode unmasked sy (fraction (y - x) d) = rw (less y x) (rounded-scale mode unmasked sy (y - x) d c hd hc) in
+    let q : roundedHalf mode unmasked sx (fraction (x * c - y * c) (d * c)) ≡ roundedHalf mode unmasked sx (fraction (x - y) d) = rw (less-scale x y c) (rounded-scale mode unmasked sx (x - y) d c hd hc) in
+    let r : roundedHalf mode unmasked sy (fraction (y * c - x * c) (d * c)) ≡ roundedHalf mode unmasked sy (fraction (y - x) d) = rw (less-scale y x c) (rounded-scale mode unmasked sy (y - x) d c hd hc) in
     rw (p, q, r, ltb-scale x y c hc, ltb-scale y x c hc)
-  where
-    less : (a b : ℕ) → a * c - b * c ≡ (a - b) * c
-    less a b = sym (mul-comm (a - b) c ∙ mul-sub c a b ∙ rw (mul-comm c a, mul-comm c b))
-
--- ---- bits below the fourteenth of a place may be joined to one too: t is the place of T in units that are 2 ^ k times as large
-module _ (t k T : ℕ) (e : t ≡ place T (2 * 2 ^ k)) (large : 2 ^ 13 ≤ t) where
-  abbrev S : ℕ
-  S = size t - 14
-
-  unit-pos : 0 < 2 * 2 ^ k
-  unit-pos = omega (arith, pow-pos k)
-
-  size-t : size t ≡ S + 14
-  size-t = let l : 13 < size t = size-large t 13 large in omega arith
-
-  t-ge : 2 ^ (S + 13) ≤ t
-  t-ge = size-reaches t (S + 13) (omega (arith, size-t))
-
-  t-lt : t < 2 ^ (S + 14)
-  t-lt = subst (λ (s : ℕ). t < 2 ^ s) size-t (size-lt t)
-
-  -- 2 ^ (S + j) units
-  wide : (j : ℕ) → 2 ^ (S + j) * (2 * 2 ^ k) ≡ 2 ^ (S + k + suc j)
-  wide j =
-      mul-comm (2 ^ (S + j)) (2 * 2 ^ k) ∙ mul-right-comm 2 (2 ^ k) (2 ^ (S + j)) ∙ mul-assoc 2 (2 ^ (S + j)) (2 ^ k)
-      ∙ ap (λ (n : ℕ). 2 * n) (sym (pow-add 2 (S + j) k)) ∙ sym (pow-succ' 2 (S + j + k)) ∙ ap (λ (n : ℕ). 2 ^ n) (let f : suc (S + j + k) ≡ S + k + suc j = omega arith in f)
-
-  T-ge : 2 ^ (S + k + 13) ≤ T
-  T-ge = le-of-suc-le-suc (lt-of-not-le (λ (g : suc T ≤ 2 ^ (S + k + 13)).
-      not-le-of-lt (place-lt T (2 * 2 ^ k) (2 ^ (S + 12)) unit-pos (lt-of-lt-of-le g (le-of-eq (sym (wide 12))))) (rw (← e) (omega (arith, t-ge, pow-add 2 S 12, pow-add 2 S 13)))))
-
-  T-lt : T < 2 ^ suc (S + k + 13)
-  T-lt = lt-of-not-le (λ (g : 2 ^ suc (S + k + 13) ≤ T).
-      let h : 2 * 2 ^ (S + 13) ≤ place T (2 * 2 ^ k) = place-ge T (2 * 2 ^ k) (2 ^ (S + 13)) unit-pos (le-trans (le-of-eq (wide 13 ∙ ap (λ (n : ℕ). 2 ^ n) (let f : S + k + 14 ≡ suc (S + k + 13) = omega arith in f))) g) in
-      not-le-of-lt t-lt (omega (arith, h, e, pow-add 2 S 13, pow-add 2 S 14)))
-
-  -- t * 2 ^ k has as many digits
-  P-ge : 2 ^ (S + k + 13) ≤ t * 2 ^ k
-  P-ge = le-trans (le-of-eq (ap (λ (n : ℕ). 2 ^ n) (let f : S + k + 13 ≡ S + 13 + k = omega arith in f) ∙ pow-add 2 (S + 13) k)) (mul-le-mul-right (2 ^ k) t-ge)
-
-  P-lt : t * 2 ^ k < 2 ^ suc (S + k + 13)
-  P-lt = lt-of-lt-of-le (mul-lt-mul-of-pos-right t-lt (pow-pos k)) (le-of-eq (sym (pow-add 2 (S + 14) k) ∙ ap (λ (n : ℕ). 2 ^ n) (let f : S + 14 + k ≡ suc (S + k + 13) = omega arith in f)))
-
-  -- one rest of the same steps
-  z-same : place (t * 2 ^ k) (2 ^ (S + k + 2)) ≡ place T (2 ^ (S + k + 2))
-  z-same =
-      let f : 2 ^ (S + k + 2) ≡ 2 * 2 ^ (S + 1) * 2 ^ k = sym (wide 1) ∙ mul-comm (2 ^ (S + 1)) (2 * 2 ^ k) ∙ mul-right-comm 2 (2 ^ k) (2 ^ (S + 1)) in
-      ap (λ (n : ℕ). place (t * 2 ^ k) n) f
-      ∙ place-scale t (2 * 2 ^ (S + 1)) (2 ^ k) (omega (arith, pow-pos (S + 1))) (pow-pos k)
-      ∙ ap (λ (n : ℕ). place n (2 * 2 ^ (S + 1))) e
-      ∙ place-place T (2 * 2 ^ k) (2 ^ (S + 1)) unit-pos (pow-pos (S + 1))
-      ∙ ap (λ (n : ℕ). place T n) (wide 1)
-
-  normal : (mode : Mode) (neg : Bool) (n : ℕ) → 2 ^ (S + k + 13) ≤ n → ltb (steps mode neg n) 2048 ≡ false
-  normal mode neg n h = le-ltb (steps mode neg n) 2048 (omega (arith, steps-ge mode neg n, pow-add 2 (S + k) 13, pow-pos (S + k)))
-
-  coarse-wide : (mode : Mode) (unmasked neg : Bool) → coarse mode unmasked neg (t * 2 ^ k) ≡ coarse mode unmasked neg T
-  unfolding coarse
-  coarse-wide mode unmasked neg =
-      let a : size (t * 2 ^ k) - 14 ≡ S + k = let l : size (t * 2 ^ k) ≡ suc (S + k + 13) = size-is (t * 2 ^ k) (S + k + 13) P-ge P-lt in omega arith in
-      let b : size T - 14 ≡ S + k = let l : size T ≡ suc (S + k + 13) = size-is T (S + k + 13) T-ge T-lt in omega arith in
-      rw (a, b, z-same, normal mode neg (t * 2 ^ k) P-ge, normal mode neg T T-ge, and-false (ltb 0 (t * 2 ^ k)), and-false (ltb 0 T))
-
-  pub sticky-wide : (mode : Mode) (unmasked neg : Bool) (x : Magnitude) → 0 < denominator x → Placed x T → roundedHalf mode unmasked neg x ≡ roundedHalf mode unmasked neg (fraction (t * 2 ^ k) (2 ^ 27))
-  sticky-wide mode unmasked neg x hd p = bridge x T hd p mode neg unmasked ∙ sym (coarse-wide mode unmasked neg) ∙ sym (of-place mode unmasked neg (t * 2 ^ k))
-
--- ---- a root, from the place of the root of an N that has 25 or 26 digits
-root-placed : (n : ℕ) → n < 2 ^ 40 → Placed (rootOf n (2 ^ 24)) (rootPlace 34 (n * 2 ^ 28))
-unfolding against
-root-placed n h c =
-    let e : n * (2 ^ 26 * 2 ^ 26) ≡ n * 2 ^ 28 * 2 ^ 24 = sym (mul-assoc n (2 ^ 28) (2 ^ 24)) in
-    ap (λ (y : ℕ). compare y (c * c * 2 ^ 24)) e ∙ cmp-scale (n * 2 ^ 28) (c * c) (2 ^ 24) (omega arith) ∙ root-cut 34 (n * 2 ^ 28) c (omega arith)
-
-pub sticky-root : (mode : Mode) (unmasked neg : Bool) (n N k : ℕ) → n < 2 ^ 40 → n * 2 ^ 28 ≡ N * (2 ^ k * 2 ^ k) → 2 ^ 24 ≤ N → N < 2 ^ 26
-    → roundedHalf mode unmasked neg (rootOf n (2 ^ 24)) ≡ roundedHalf mode unmasked neg (fraction (rootPlace 13 N * 2 ^ k) (2 ^ 27))
-sticky-root mode unmasked neg n N k hn e lo hi =
-    let c : rootPlace 13 N ≡ place (rootPlace 34 (n * 2 ^ 28)) (2 * 2 ^ k) =
-    sym (rw e (root-place-cut 34 13 N (2 ^ k) (pow-pos k) (rw (← e) (omega arith)) (omega arith))) in
-    sticky-wide (rootPlace 13 N) k (rootPlace 34 (n * 2 ^ 28)) c (root-large 13 N lo (omega arith)) mode unmasked neg (rootOf n (2 ^ 24)) (omega arith) (root-placed n hn)
-
--- as the code works it out: t is the place of the root of the N of proofs/Roots.antt
-module _ (a x j : ℕ) (hx : x ≡ units a) (hf : isFinite a ≡ true) (hz : isZero a ≡ false) (hj : j ≡ (size x - 1) / 2) where
-  pub above-zero : 0 < x
-  above-zero = rw hx (units-pos a hz)
-
-  x-lt : x < 2 ^ 40
-  x-lt = rw hx (finite-lt a hf)
-
-  pub exponent-le : j ≤ 19
-  exponent-le = let s : size x ≤ 40 = size-le x 40 x-lt in omega arith
-
-  shl-x : x * 2 ^ 24 % 2 ^ 64 ≡ x * 2 ^ 24
-  shl-x = mod-eq-of-lt (omega (arith, x-lt))
-
-  pub radicand-lt : x * 2 ^ 24 % 2 ^ 64 / 2 ^ (2 * j) < 2 ^ 26
-  radicand-lt = rw shl-x (N-lt a x j hx above-zero hj)
-
-  pub root-rounded : (mode : Mode) (unmasked neg : Bool) {t : ℕ} {o : Outcome} → t ≡ rootPlace 13 (x * 2 ^ 24 % 2 ^ 64 / 2 ^ (2 * j))
-      → o ≡ roundedHalf mode unmasked neg (fraction (t * 2 ^ (j + 2) % 2 ^ 64) (2 ^ 27)) → o ≡ roundedHalf mode unmasked neg (rootOf (units a) (2 ^ 24))
-  root-rounded mode unmasked neg {t} ht h =
-      let e : t ≡ rootPlace 13 (x * 2 ^ 24 / 2 ^ (2 * j)) = ht ∙ ap (λ (n : ℕ). rootPlace 13 (n / 2 ^ (2 * j))) shl-x in
-      let l : t < 2 ^ 14 = root-place-lt 13 (x * 2 ^ 24 / 2 ^ (2 * j)) (N-lt a x j hx above-zero hj) e in
-      let s : t * 2 ^ (j + 2) % 2 ^ 64 ≡ t * 2 ^ (j + 2) = shl-exact {a = t} 14 (j + 2) 64 l (omega (arith, exponent-le)) in
-      h ∙ rw (s, e, ← hx) (sym (sticky-root mode unmasked neg x (x * 2 ^ 24 / 2 ^ (2 * j)) (j + 2) x-lt (N-square a x j hx above-zero hj) (N-ge a x j hx above-zero hj) (N-lt a x j hx above-zero hj)))

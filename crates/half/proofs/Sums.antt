@@ -1,22 +1,25 @@
 -- Finite sums as the code works them out.
-use Prim.Native.Nat.{ℕ, _+_, _-_, _*_, _^_, _≤_, _<_}
+use Prim.Native.Nat.{ℕ, _+_, _-_, _*_, _%_, _^_, _≤_, _<_, min}
 use mathlib.Core.Bool.{Bool, true, false, cond, Bool·beq}
 use mathlib.Core.List.{[], _∷_}
-use mathlib.Core.Path.{_≡_, refl, sym, _∙_}
+use mathlib.Core.Path.{_≡_, refl, sym, ap, _∙_}
 use native.Mathlib.Omega.{arith}
-use native.Mathlib.Nat.{zero-div, zero-mod}
+use native.Mathlib.Nat.{zero-div, zero-mod, add-mul, mul-assoc, mul-le-mul, mod-eq-of-lt}
 use lib.Bits.{bitOr}
-use lib.Dec.{ltb}
-use borrow.Author.Tests.{lt-ltb, le-ltb, ltb-true, ltb-false}
-use Rattle.half.specs.Format.{isSubnormal, negative, withSign, units}
+use lib.Dec.{ltb, leb}
+use lib.Pow.{pow-add, pow-pos, pow-mono}
+use borrow.Author.Tests.{lt-ltb, le-ltb, ltb-true, ltb-false, leb-true, leb-false}
+use Rattle.half.specs.Format.{exponentField, significand, isSubnormal, negative, withSign, units}
 use Rattle.half.specs.Exact.{fraction}
 use Rattle.half.specs.Round.{DE, flag, result, roundedHalf}
-use Rattle.half.specs.Operations.{some, cancelled, withDenormals, unlike, exactSum}
-use Rattle.half.specs.Work.{place}
+use Rattle.half.specs.Operations.{some, cancelled, withDenormals, unlike, exactSum, halfAdd, halfMultiplyAdd}
+use Rattle.half.specs.Work.{place, isNormal, sumMagnitude, sumSign, Summed}
 use Rattle.half.specs.declared.Mode.{Mode}
 use Rattle.half.specs.declared.Outcome.{Outcome}
+use Rattle.half.specs.declared.sum.Sum.{Sum}
 use Rattle.half.proofs.Cases.{again}
-use Rattle.half.proofs.Sticky.{sticky-shift, sum-scale}
+use Rattle.half.proofs.Normals.{normal-units, normal-add, normal-multiply-add, product-units}
+use Rattle.half.proofs.Sticky.{sticky-shift, less-scale, ltb-scale, sum-scale}
 use Rattle.half.proofs.Steps.{zero-rounds}
 
 beq-eq : (p q : Bool) → Bool·beq p q ≡ true → p ≡ q
@@ -34,8 +37,21 @@ module _ (x y : ℕ) {l s : ℕ} (hl : l ≡ cond (ltb x y) y x) (hs : s ≡ con
   pub both : (s ≤ l) × (l + s ≡ x + y) × (l - s ≡ cond (ltb x y) (y - x) (x - y))
   both = ordered (ltb x y) refl hl hs
 
--- ---- ± x and ± y, in units of 2 ^ -(k + 26): m is the magnitude of the sum, neg its sign
-module _ (mode : Mode) (unmasked sx : Bool) (x : ℕ) (sy : Bool) (y k : ℕ) {m : ℕ} (hm : m ≡ cond (Bool·beq sx sy) (x + y) (cond (ltb x y) (y - x) (x - y))) where
+-- ---- the magnitude of a sum, where it is not 0, rounds as the sum does
+pub sum-rounded : (mode : Mode) (unmasked sx : Bool) (x : ℕ) (sy : Bool) (y d : ℕ) → 0 < sumMagnitude (Bool·beq sx sy) x y
+    → roundedHalf mode unmasked (sumSign sx x sy y) (fraction (sumMagnitude (Bool·beq sx sy) x y) d) ≡ exactSum mode unmasked sx x sy y d
+unfolding exactSum
+sum-rounded mode unmasked sx x sy y d n = go (Bool·beq sx sy) (ltb x y) refl refl n
+  where
+    go : (l b : Bool) → Bool·beq sx sy ≡ l → ltb x y ≡ b → 0 < cond l (x + y) (cond b (y - x) (x - y))
+        → roundedHalf mode unmasked (cond b sy sx) (fraction (cond l (x + y) (cond b (y - x) (x - y))) d) ≡ exactSum mode unmasked sx x sy y d
+    go true true p q n = rw (p, beq-eq sx sy p)
+    go true false p q n = rw p
+    go false true p q n = let l : x < y = ltb-true _ _ q in rw (p, le-ltb y x (let g : x ≤ y = omega arith in g), q)
+    go false false p q n = rw (p, lt-ltb y x (let g : y < x = omega arith in g))
+
+-- ---- ± x and ± y, in units of 2 ^ -(k + 26): m is the magnitude of the sum
+module _ (mode : Mode) (unmasked sx : Bool) (x : ℕ) (sy : Bool) (y k : ℕ) {m : ℕ} (hm : m ≡ sumMagnitude (Bool·beq sx sy) x y) where
   -- what t rounds to, if t is the place of n
   at : (n : ℕ) (s : Bool) {t : ℕ} {o : Outcome} → t ≡ place n (2 ^ k) → o ≡ roundedHalf mode unmasked s (fraction t (2 ^ 27)) → o ≡ roundedHalf mode unmasked s (fraction n (2 ^ (k + 26)))
   at n s ht h = h ∙ rw ht (sym (sticky-shift mode unmasked s n k))
@@ -56,22 +72,9 @@ module _ (mode : Mode) (unmasked sx : Bool) (x : ℕ) (sy : Bool) (y k : ℕ) {m
           let g : x ≤ y = let f : x - y ≡ 0 = sym em ∙ z in omega arith in
           rw (p, q, le-ltb y x g, ← eh)
 
-  pub summed : (m ≡ 0 → ⊥) → {t : ℕ} {neg : Bool} {o : Outcome} → neg ≡ cond (ltb x y) sy sx → t ≡ place m (2 ^ k)
+  pub summed : (m ≡ 0 → ⊥) → {t : ℕ} {neg : Bool} {o : Outcome} → neg ≡ sumSign sx x sy y → t ≡ place m (2 ^ k)
       → o ≡ roundedHalf mode unmasked neg (fraction t (2 ^ 27)) → o ≡ exactSum mode unmasked sx x sy y (2 ^ (k + 26))
-  unfolding exactSum
-  summed n {t} {neg} {o} hn ht h = go (Bool·beq sx sy) (ltb x y) refl refl hm hn
-    where
-      rounds : (v : ℕ) (s : Bool) → m ≡ v → neg ≡ s → o ≡ roundedHalf mode unmasked s (fraction v (2 ^ (k + 26)))
-      rounds v s em es = at v s {t = t} (rw (← em) ht) (rw (← es) h)
-
-      go : (l b : Bool) → Bool·beq sx sy ≡ l → ltb x y ≡ b → m ≡ cond l (x + y) (cond b (y - x) (x - y)) → neg ≡ cond b sy sx → o ≡ exactSum mode unmasked sx x sy y (2 ^ (k + 26))
-      go true true p q em es = rw p (rounds (x + y) sx em (es ∙ sym (beq-eq sx sy p)))
-      go true false p q em es = rw p (rounds (x + y) sx em es)
-      go false true p q em es = let l : x < y = ltb-true _ _ q in let g : x ≤ y = omega arith in rw (p, le-ltb y x g, q) (rounds (y - x) sy em es)
-      go false false p q em es =
-          let l : y ≤ x = ltb-false _ _ q in
-          let g : y < x = let f : m ≡ x - y = em in omega arith in
-          rw (p, lt-ltb y x g) (rounds (x - y) sx em es)
+  summed n {t} {neg} hn ht h = at m neg ht h ∙ rw (hn, hm) (sum-rounded mode unmasked sx x sy y (2 ^ (k + 26)) (let g : 0 < m = omega arith in rw (← hm) g))
 
 -- ---- the DE of two operands, of which the code hands the last in again, beside what follows
 pub beside : (a b : ℕ) {f : ℕ} {o r q : Outcome} → f ≡ flag DE (some isSubnormal (a ∷ b ∷ b ∷ [])) → r ≡ result (o .half) (bitOr f (o .flags)) → o ≡ q → r ≡ withDenormals (a ∷ b ∷ []) q
@@ -98,3 +101,87 @@ module _ (mode : Mode) (unmasked : Bool) (a b c : ℕ) {neg sc : Bool} {n : ℕ}
 pub product-rounded : (mode : Mode) (unmasked : Bool) (a b : ℕ) {neg : Bool} {t : ℕ} {o : Outcome} → neg ≡ unlike a b → t ≡ place (units a * units b) (2 ^ 22)
     → o ≡ roundedHalf mode unmasked neg (fraction t (2 ^ 27)) → o ≡ roundedHalf mode unmasked (unlike a b) (fraction (units a * units b) (2 ^ 48))
 product-rounded mode unmasked a b {neg} hu ht h = rw (← hu) (h ∙ sym (rw ht (sticky-shift mode unmasked neg (units a * units b) 22)))
+
+-- ---- sums of the short way, in units of 2 ^ -57
+magnitude-scale : (like : Bool) (x y c : ℕ) → 0 < c → sumMagnitude like x y * c ≡ sumMagnitude like (x * c) (y * c)
+magnitude-scale true x y c h = add-mul x y c
+magnitude-scale false x y c h = rw (ltb-scale x y c h) (go (ltb x y))
+  where
+    go : (b : Bool) → cond b (y - x) (x - y) * c ≡ cond b (y * c - x * c) (x * c - y * c)
+    go true = sym (less-scale y x c)
+    go false = sym (less-scale x y c)
+
+-- m is the magnitude of ± x and ± y added, at the exponent l
+scaled-sum : {sx sy : Bool} (x y : ℕ) {l m X Y : ℕ} {neg : Bool} → l < 64 → x * 2 ^ l ≡ X → y * 2 ^ l ≡ Y → m ≡ sumMagnitude (Bool·beq sx sy) x y → neg ≡ sumSign sx x sy y
+    → Summed sx X sy Y (record { neg = neg; digits = m; exponent = l })
+scaled-sum {sx} {sy} x y {l} h hx hy hm hn =
+    record {
+      room = h;
+      magnitude = rw (hm, ← hx, ← hy) (magnitude-scale (Bool·beq sx sy) x y (2 ^ l) (pow-pos l));
+      sign = rw (← hx, ← hy, ltb-scale x y (2 ^ l) (pow-pos l)) hn;
+    }
+
+-- two normal halves, x and y in units of 2 ^ -25
+pub normal-sum : (a b : ℕ) {x y m : ℕ} {sx sy neg : Bool} → x ≡ units a * 2 → y ≡ units b * 2 → sx ≡ negative a → sy ≡ negative b → m ≡ sumMagnitude (Bool·beq sx sy) x y → neg ≡ sumSign sx x sy y
+    → Summed (negative a) (units a * 2 ^ 33) (negative b) (units b * 2 ^ 33) (record { neg = neg; digits = m; exponent = 32 })
+normal-sum a b {x} {y} hx hy hs ht hm hn = rw (← hs, ← ht) (scaled-sum x y (omega arith) (omega arith) (omega arith) hm hn)
+
+-- x * 2 ^ i and y * 2 ^ j at the lower exponent, l
+module _ (x i y j : ℕ) {l : ℕ} (hl : l ≡ min i j) (hx : x < 2 ^ 22) (hy : y < 2 ^ 11) (lo : 9 ≤ i) (hi : i ≤ 67) (jlo : 33 ≤ j) (jhi : j ≤ 62) where
+  fit : x * 2 ^ (i - l) + y * 2 ^ (j - l) < 2 ^ 64
+  fit = go (leb i j) refl
+    where
+      go : (b : Bool) → leb i j ≡ b → x * 2 ^ (i - l) + y * 2 ^ (j - l) < 2 ^ 64
+      go true e =
+          let g : i ≤ j = leb-true _ _ e in
+          let u : y * 2 ^ (j - l) ≤ 2047 * 2 ^ 53 = mul-le-mul {n₁ = y} {m₁ = 2 ^ (j - l)} {n₂ = 2047} {m₂ = 2 ^ 53} (omega arith) (pow-mono {i = j - l} {j = 53} (omega arith)) in
+          rw (let z : i - l ≡ 0 = omega arith in z) (omega arith)
+      go false e =
+          let g : j < i = leb-false _ _ e in
+          let u : x * 2 ^ (i - l) ≤ 2 ^ 22 * 2 ^ 34 = mul-le-mul {n₁ = x} {m₁ = 2 ^ (i - l)} {n₂ = 2 ^ 22} {m₂ = 2 ^ 34} (omega arith) (pow-mono {i = i - l} {j = 34} (omega arith)) in
+          rw (let z : j - l ≡ 0 = omega arith in z) (omega arith)
+
+  shl-x : x * 2 ^ (i - l) % 2 ^ 64 ≡ x * 2 ^ (i - l)
+  shl-x = mod-eq-of-lt (omega (arith, fit))
+
+  shl-y : y * 2 ^ (j - l) % 2 ^ 64 ≡ y * 2 ^ (j - l)
+  shl-y = mod-eq-of-lt (omega (arith, fit))
+
+  back : (n k : ℕ) → l ≤ k → n * 2 ^ (k - l) * 2 ^ l ≡ n * 2 ^ k
+  back n k g = mul-assoc n (2 ^ (k - l)) (2 ^ l) ∙ ap (λ (e : ℕ). n * e) (sym (pow-add 2 (k - l) l) ∙ ap (λ (e : ℕ). 2 ^ e) (let f : k - l + l ≡ k = omega arith in f))
+
+  pub shifted-fit : x * 2 ^ (i - l) % 2 ^ 64 + y * 2 ^ (j - l) % 2 ^ 64 < 2 ^ 64
+  shifted-fit = rw (shl-x, shl-y) fit
+
+  pub shifted-sum : {sx sy neg : Bool} {m : ℕ} → m ≡ sumMagnitude (Bool·beq sx sy) (x * 2 ^ (i - l) % 2 ^ 64) (y * 2 ^ (j - l) % 2 ^ 64) → neg ≡ sumSign sx (x * 2 ^ (i - l) % 2 ^ 64) sy (y * 2 ^ (j - l) % 2 ^ 64)
+      → Summed sx (x * 2 ^ i) sy (y * 2 ^ j) (record { neg = neg; digits = m; exponent = l })
+  shifted-sum hm hn =
+      scaled-sum (x * 2 ^ (i - l) % 2 ^ 64) (y * 2 ^ (j - l) % 2 ^ 64) (omega arith)
+      (ap (λ (n : ℕ). n * 2 ^ l) shl-x ∙ back x i (omega arith))
+      (ap (λ (n : ℕ). n * 2 ^ l) shl-y ∙ back y j (omega arith)) hm hn
+
+-- a product and an addend that are normal
+pub normal-fused : (a b c : ℕ) → isNormal a ≡ true → isNormal b ≡ true → isNormal c ≡ true → {x i j y k : ℕ} {sx sy : Bool} {s : Sum} → x ≡ significand a * significand b → i ≡ exponentField a → j ≡ exponentField b
+    → y ≡ significand c → k ≡ exponentField c → sx ≡ unlike a b → sy ≡ negative c → Summed sx (x * 2 ^ (i + j + 7)) sy (y * 2 ^ (k + 32)) s → Summed (unlike a b) (units a * units b * 2 ^ 9) (negative c) (units c * 2 ^ 33) s
+normal-fused a b c na nb nc {y = y} {k = k} hx hi hj hy hk hs ht h =
+    let e : y * 2 ^ (k + 32) ≡ units c * 2 ^ 33 = ap (λ (n : ℕ). y * n) (pow-add 2 k 32) ∙ sym (mul-assoc y (2 ^ k) (2 ^ 32)) ∙ ap (λ (n : ℕ). n * 2 ^ 32) (normal-units c nc hy hk) ∙ mul-assoc (units c) 2 (2 ^ 32) in
+    rw (← hs, ← ht, ← product-units a b na nb hx hi hj, ← e) h
+
+-- rounded, where it is large
+large-sum : (mode : Mode) (unmasked : Bool) {sx sy : Bool} {x y : ℕ} {s : Sum} {o : Outcome} → Summed sx x sy y s → 2 ^ 43 ≤ s .digits * 2 ^ s .exponent
+    → ((u : Bool) → o ≡ roundedHalf mode u (s .neg) (fraction (s .digits * 2 ^ s .exponent) (2 ^ 57))) → o ≡ exactSum mode unmasked sx x sy y (2 ^ 57)
+large-sum mode unmasked {sx} {sy} {x} {y} h n ho =
+    ho unmasked ∙ rw (h .magnitude, h .sign) (sum-rounded mode unmasked sx x sy y (2 ^ 57) (let g : 2 ^ 43 ≤ sumMagnitude (Bool·beq sx sy) x y = rw (h .magnitude) at n in omega (arith, g)))
+
+pub add-rounds : (mode : Mode) (unmasked : Bool) (a b : ℕ) → isNormal a ≡ true → isNormal b ≡ true → {s : Sum} {o : Outcome} → Summed (negative a) (units a * 2 ^ 33) (negative b) (units b * 2 ^ 33) s → 2 ^ 43 ≤ s .digits * 2 ^ s .exponent
+    → ((u : Bool) → o ≡ roundedHalf mode u (s .neg) (fraction (s .digits * 2 ^ s .exponent) (2 ^ 57))) → o ≡ halfAdd mode unmasked a b
+add-rounds mode unmasked a b na nb h n ho =
+    large-sum mode unmasked h n ho ∙ sum-scale mode unmasked (negative a) (units a) (negative b) (units b) (2 ^ 24) (2 ^ 33) (omega arith) (omega arith) ∙ sym (normal-add mode unmasked a b na nb)
+
+pub fused-rounds : (mode : Mode) (unmasked : Bool) (a b c : ℕ) → isNormal a ≡ true → isNormal b ≡ true → isNormal c ≡ true → {s : Sum} {o : Outcome} → Summed (unlike a b) (units a * units b * 2 ^ 9) (negative c) (units c * 2 ^ 33) s
+    → 2 ^ 43 ≤ s .digits * 2 ^ s .exponent → ((u : Bool) → o ≡ roundedHalf mode u (s .neg) (fraction (s .digits * 2 ^ s .exponent) (2 ^ 57))) → o ≡ halfMultiplyAdd mode unmasked a b c
+fused-rounds mode unmasked a b c na nb nc h n ho =
+    large-sum mode unmasked h n ho
+    ∙ ap (λ (v : ℕ). exactSum mode unmasked (unlike a b) (units a * units b * 2 ^ 9) (negative c) v (2 ^ 57)) (let u : units c * 2 ^ 33 ≡ units c * 2 ^ 24 * 2 ^ 9 = omega arith in u)
+    ∙ sum-scale mode unmasked (unlike a b) (units a * units b) (negative c) (units c * 2 ^ 24) (2 ^ 48) (2 ^ 9) (omega arith) (omega arith)
+    ∙ sym (normal-multiply-add mode unmasked a b na nb c nc)

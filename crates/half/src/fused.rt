@@ -1,12 +1,14 @@
 // Fused multiply and add.
 ghost use mathlib.Core.Path.{_≡_};
 ghost use Prim.Native.Nat.{_<_, _≤_, _+_, _*_, _^_};
-ghost use mathlib.Core.Bool.{Bool, false, _&&_};
+ghost use mathlib.Core.Bool.{Bool, true, false, _&&_};
 ghost use Rattle.half.specs.Format.{isFinite, negative, units};
 ghost use Rattle.half.specs.Operations.{exactSum, unlike, halfMultiplyAdd};
+ghost use Rattle.half.specs.Work.{isNormal, Summed};
 use super::Mode;
 use super::Outcome;
 use super::fields;
+use super::normal;
 use super::operands;
 use super::product;
 use super::sum;
@@ -61,7 +63,8 @@ fn special_fused(a: u16, b: u16, c: u16) -> Outcome
     Outcome { half: c, flags: de }
 }
 
-pub fn multiply_add(mode: Mode, unmasked: bool, a: u16, b: u16, c: u16) -> Outcome
+// a * b + c for any operands.
+fn any_fused(mode: Mode, unmasked: bool, a: u16, b: u16, c: u16) -> Outcome
     ensures { λ r. ⌜ r ≡ halfMultiplyAdd mode unmasked a b c ⌝ }
 {
     if !operands::all_finite(a, b, c) {
@@ -69,4 +72,30 @@ pub fn multiply_add(mode: Mode, unmasked: bool, a: u16, b: u16, c: u16) -> Outco
     }
     let o = finite_fused(mode, unmasked, a, b, c);
     operands::with_flags(operands::denormal_flag(a, b, c), o)
+}
+
+fn normal_fused(a: u16, b: u16, c: u16) -> sum::Sum
+    requires { ⌜ (isNormal a ≡ true) × (isNormal b ≡ true) × (isNormal c ≡ true) ⌝ }
+    ensures { λ r. ⌜ Summed (unlike a b) (units a * units b * 2 ^ 9) (negative c) (units c * 2 ^ 33) r ⌝ }
+{
+    let x = normal::product_of(a, b);
+    let i = normal::exponent_of(a) + normal::exponent_of(b) + 7;
+    let y = normal::significand_of(c);
+    let j = normal::exponent_of(c) + 32;
+    let neg = operands::unlike_signs(a, b);
+    let sc = fields::sign_of(c);
+    sum::shifted_sum(neg, x, i, sc, y, j)
+}
+
+pub fn multiply_add(mode: Mode, unmasked: bool, a: u16, b: u16, c: u16) -> Outcome
+    ensures { λ r. ⌜ r ≡ halfMultiplyAdd mode unmasked a b c ⌝ }
+{
+    if !(normal::is_normal(a) & (normal::is_normal(b) & normal::is_normal(c))) {
+        return any_fused(mode, unmasked, a, b, c);
+    }
+    let s = normal_fused(a, b, c);
+    if !normal::is_large(s.digits, s.exponent) {
+        return any_fused(mode, unmasked, a, b, c);
+    }
+    normal::round_large(mode, s.neg, s.digits, s.exponent)
 }

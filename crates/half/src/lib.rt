@@ -1,6 +1,7 @@
 // IEEE 754 binary16 arithmetic: six operations, each rounded once, with its six flags.
 mod fields;
 pub mod fused;
+mod normal;
 mod operands;
 pub mod product;
 pub mod quotient;

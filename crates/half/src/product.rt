@@ -1,14 +1,15 @@
 // Multiplication.
 ghost use mathlib.Core.Path.{_≡_};
 ghost use Prim.Native.Nat.{_<_, _≤_, _+_, _-_, _*_, _^_};
-ghost use mathlib.Core.Bool.{Bool, false, _&&_, _||_};
+ghost use mathlib.Core.Bool.{Bool, true, false, _&&_, _||_};
 ghost use lib.IntN.{subℕ};
 ghost use Rattle.half.specs.Format.{isFinite, isInfinite, isZero, units, exponentField};
 ghost use Rattle.half.specs.Operations.{halfMultiply};
-ghost use Rattle.half.specs.Work.{place, Scaled};
+ghost use Rattle.half.specs.Work.{place, isNormal, Scaled};
 use super::Mode;
 use super::Outcome;
 use super::fields;
+use super::normal;
 use super::operands;
 use super::rounding;
 
@@ -80,7 +81,8 @@ fn special_product(a: u16, b: u16) -> Outcome
     }
 }
 
-pub fn multiply(mode: Mode, unmasked: bool, a: u16, b: u16) -> Outcome
+// The product of any operands.
+fn any_product(mode: Mode, unmasked: bool, a: u16, b: u16) -> Outcome
     ensures { λ r. ⌜ r ≡ halfMultiply mode unmasked a b ⌝ }
 {
     if !operands::all_finite(a, b, b) {
@@ -89,4 +91,31 @@ pub fn multiply(mode: Mode, unmasked: bool, a: u16, b: u16) -> Outcome
     let neg = operands::unlike_signs(a, b);
     let o = rounding::round(mode, unmasked, neg, product_place(a, b));
     operands::with_flags(operands::denormal_flag(a, b, b), o)
+}
+
+// Two significands have 20 digits behind the first at least, so that the product is large where the exponents make 23.
+fn normal_product(mode: Mode, unmasked: bool, a: u16, b: u16) -> Outcome
+    requires { ⌜ (isNormal a ≡ true) × (isNormal b ≡ true) ⌝ }
+    ensures { λ r. ⌜ r ≡ halfMultiply mode unmasked a b ⌝ }
+{
+    let m = normal::product_of(a, b);
+    let e = normal::exponent_of(a) + normal::exponent_of(b) + 7;
+    let neg = operands::unlike_signs(a, b);
+    if e < 23 {
+        return normal::round_small(mode, unmasked, neg, m, e);
+    }
+    normal::round_large(mode, neg, m, e)
+}
+
+// The two calls keep any_product out of the short way's code: a function that is called once is put into its caller.
+pub fn multiply(mode: Mode, unmasked: bool, a: u16, b: u16) -> Outcome
+    ensures { λ r. ⌜ r ≡ halfMultiply mode unmasked a b ⌝ }
+{
+    if !normal::is_normal(a) {
+        return any_product(mode, unmasked, a, b);
+    }
+    if !normal::is_normal(b) {
+        return any_product(mode, unmasked, a, b);
+    }
+    normal_product(mode, unmasked, a, b)
 }

@@ -1,15 +1,16 @@
 // Division.
 ghost use mathlib.Core.Path.{_≡_};
 ghost use Prim.Native.Nat.{_<_, _-_, _*_, _^_, min};
-ghost use mathlib.Core.Bool.{Bool, false, not, _&&_};
+ghost use mathlib.Core.Bool.{Bool, true, false, not, _&&_};
 ghost use Rattle.half.specs.Format.{exponentField, isFinite, isZero, significand};
 ghost use Rattle.half.specs.Exact.{fraction};
 ghost use Rattle.half.specs.Round.{roundedHalf};
 ghost use Rattle.half.specs.Operations.{halfDivide};
-ghost use Rattle.half.specs.Work.{place};
+ghost use Rattle.half.specs.Work.{place, isNormal};
 use super::Mode;
 use super::Outcome;
 use super::fields;
+use super::normal;
 use super::operands;
 use super::rounding;
 
@@ -23,12 +24,11 @@ fn significand_beside(a: u16, b: u16) -> u64
     if i < j { s } else { s << (i - j) }
 }
 
-// The place of x / y among the multiples of 2^-26.
-fn quotient_place(x: u64, y: u64) -> u64
-    requires { ⌜ (x < 2 ^ 37) × (0 < y) ⌝ }
-    ensures { λ r. ⌜ r ≡ place (x * 2 ^ 26) y ⌝ }
+// The place of n / y.
+fn quotient_place(n: u64, y: u64) -> u64
+    requires { ⌜ (n < 2 ^ 63) × (0 < y) ⌝ }
+    ensures { λ r. ⌜ r ≡ place n y ⌝ }
 {
-    let n = x * 0x400_0000;
     let w = n / y * 2;
     if n % y == 0 { w } else { w + 1 }
 }
@@ -41,7 +41,7 @@ fn finite_quotient(mode: Mode, unmasked: bool, neg: bool, x: u64, y: u64) -> Out
     if y <= x >> 20 {
         return rounding::overflow(mode, neg);
     }
-    rounding::round(mode, unmasked, neg, quotient_place(x, y))
+    rounding::round(mode, unmasked, neg, quotient_place(x * 0x400_0000, y))
 }
 
 // A quotient with a NaN or an infinity, or with a zero for the divisor, which turns on no mode.
@@ -76,7 +76,8 @@ fn special_quotient(a: u16, b: u16) -> Outcome
     }
 }
 
-pub fn divide(mode: Mode, unmasked: bool, a: u16, b: u16) -> Outcome
+// The quotient of any operands.
+fn any_quotient(mode: Mode, unmasked: bool, a: u16, b: u16) -> Outcome
     ensures { λ r. ⌜ r ≡ halfDivide mode unmasked a b ⌝ }
 {
     let ordinary = fields::finite(a) & (fields::finite(b) & !fields::zero(b));
@@ -88,4 +89,31 @@ pub fn divide(mode: Mode, unmasked: bool, a: u16, b: u16) -> Outcome
     let y = significand_beside(b, a);
     let o = finite_quotient(mode, unmasked, neg, x, y);
     operands::with_flags(operands::denormal_flag(a, b, b), o)
+}
+
+// The place of a quotient of significands times 2^21 has 22 digits or 23, so that the quotient is large from the exponent 22 on.
+fn normal_quotient(mode: Mode, unmasked: bool, a: u16, b: u16) -> Outcome
+    requires { ⌜ (isNormal a ≡ true) × (isNormal b ≡ true) ⌝ }
+    ensures { λ r. ⌜ r ≡ halfDivide mode unmasked a b ⌝ }
+{
+    let e = normal::exponent_of(a) + 35 - normal::exponent_of(b);
+    let n = normal::significand_of(a) * 0x20_0000;
+    let m = quotient_place(n, normal::significand_of(b));
+    let neg = operands::unlike_signs(a, b);
+    if e < 22 {
+        return normal::round_small(mode, unmasked, neg, m, e);
+    }
+    normal::round_large(mode, neg, m, e)
+}
+
+pub fn divide(mode: Mode, unmasked: bool, a: u16, b: u16) -> Outcome
+    ensures { λ r. ⌜ r ≡ halfDivide mode unmasked a b ⌝ }
+{
+    if !normal::is_normal(a) {
+        return any_quotient(mode, unmasked, a, b);
+    }
+    if !normal::is_normal(b) {
+        return any_quotient(mode, unmasked, a, b);
+    }
+    normal_quotient(mode, unmasked, a, b)
 }

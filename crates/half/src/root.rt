@@ -7,10 +7,11 @@ ghost use Rattle.half.specs.Format.{isFinite, isZero, negative, units};
 ghost use Rattle.half.specs.Exact.{rootFrom, rootOf};
 ghost use Rattle.half.specs.Round.{roundedHalf};
 ghost use Rattle.half.specs.Operations.{halfRoot};
-ghost use Rattle.half.specs.Work.{rootPlace};
+ghost use Rattle.half.specs.Work.{isNormal, rootPlace};
 use super::Mode;
 use super::Outcome;
 use super::fields;
+use super::normal;
 use super::operands;
 use super::rounding;
 
@@ -76,15 +77,15 @@ fn half_exponent(x: u64) -> u32
 }
 
 // The root of a finite half above 0. Its magnitude is brought to 25 or 26 digits, so that 13 digits of the root and a bit for
-// the rest are enough.
-fn finite_root(mode: Mode, unmasked: bool, a: u16) -> Outcome
+// the rest are enough. No root is tiny.
+fn finite_root(mode: Mode, a: u16) -> Outcome
     requires { ⌜ (isFinite a ≡ true) × (isZero a ≡ false) ⌝ }
-    ensures { λ r. ⌜ r ≡ roundedHalf mode unmasked false (rootOf (units a) (2 ^ 24)) ⌝ }
+    ensures { λ r. ⌜ ((unmasked : Bool) → r ≡ roundedHalf mode unmasked false (rootOf (units a) (2 ^ 24))) ⌝ }
 {
     let x = fields::magnitude(a);
     let j = half_exponent(x);
     let t = root_place((x << 24) >> (2 * j));
-    rounding::round(mode, unmasked, false, t << (j + 2))
+    normal::packed(mode, false, rounding::place_of(t, 2), j + 2)
 }
 
 // The root of a NaN, an infinity, a zero or a negative number, which turns on no mode.
@@ -104,13 +105,36 @@ fn special_root(a: u16) -> Outcome
     }
 }
 
-pub fn square_root(mode: Mode, unmasked: bool, a: u16) -> Outcome
-    ensures { λ r. ⌜ r ≡ halfRoot mode unmasked a ⌝ }
+// The root of any operand.
+fn any_root(mode: Mode, a: u16) -> Outcome
+    ensures { λ r. ⌜ ((unmasked : Bool) → r ≡ halfRoot mode unmasked a) ⌝ }
 {
     let ordinary = fields::finite(a) & (!fields::sign_of(a) & !fields::zero(a));
     if !ordinary {
         return special_root(a);
     }
-    let o = finite_root(mode, unmasked, a);
+    let o = finite_root(mode, a);
     operands::with_flags(operands::denormal_flag(a, a, a), o)
+}
+
+// Of a normal half the exponent says how many digits the magnitude has.
+fn normal_root(mode: Mode, a: u16) -> Outcome
+    requires { ⌜ (isNormal a ≡ true) × (negative a ≡ false) ⌝ }
+    ensures { λ r. ⌜ ((unmasked : Bool) → r ≡ halfRoot mode unmasked a) ⌝ }
+{
+    let e = normal::exponent_of(a);
+    let t = root_place(normal::significand_of(a) << (15 - e % 2));
+    normal::packed(mode, false, rounding::place_of(t, 2), (e + 13) / 2)
+}
+
+pub fn square_root(mode: Mode, unmasked: bool, a: u16) -> Outcome
+    ensures { λ r. ⌜ r ≡ halfRoot mode unmasked a ⌝ }
+{
+    if fields::sign_of(a) {
+        return special_root(a);
+    }
+    if !normal::is_normal(a) {
+        return any_root(mode, a);
+    }
+    normal_root(mode, a)
 }

@@ -73,7 +73,7 @@ fn carry(nearest: bool, outward: bool, odd: u64) -> u64
 }
 
 // z / 4 rounded to a whole number.
-fn whole_steps(mode: Mode, neg: bool, z: u64) -> u64
+pub fn whole_steps(mode: Mode, neg: bool, z: u64) -> u64
     requires { ⌜ z < 2 ^ 63 ⌝ }
     ensures { λ r. ⌜ r ≡ roundTo mode neg (fraction z 4) 1 1 ⌝ }
 {

@@ -1,16 +1,24 @@
 // Addition and subtraction.
 ghost use mathlib.Core.Path.{_≡_};
-ghost use Prim.Native.Nat.{_<_, _≤_, _+_, _-_, _^_};
-ghost use mathlib.Core.Bool.{Bool, false, _&&_, cond};
+ghost use Prim.Native.Nat.{_<_, _≤_, _+_, _*_, _^_, min};
+ghost use mathlib.Core.Bool.{Bool, true, false, _&&_, cond, Bool·beq};
 ghost use lib.Dec.{ltb};
-ghost use Rattle.half.specs.Format.{isFinite, withSign};
-ghost use Rattle.half.specs.Work.{place};
+ghost use Rattle.half.specs.Format.{isFinite, isNan, negative, negated, units, withSign};
+ghost use Rattle.half.specs.Work.{place, isNormal, sumMagnitude, sumSign, Summed};
 ghost use Rattle.half.specs.Operations.{cancelled, exactSum, halfAdd, halfSubtract};
 use super::Mode;
 use super::Outcome;
 use super::fields;
+use super::normal;
 use super::operands;
 use super::rounding;
+
+// A sum's sign and its magnitude, digits * 2^exponent in units of 2^-57.
+pub struct Sum {
+    pub neg: bool,
+    pub digits: u64,
+    pub exponent: u32,
+}
 
 // The zero that a sum of unlike signs gives.
 fn cancelled_zero(mode: Mode) -> u16
@@ -40,7 +48,7 @@ fn smaller(x: u64, y: u64) -> u64
 // foresees.
 fn total(like: bool, x: u64, y: u64) -> u64
     requires { ⌜ x + y < 2 ^ 64 ⌝ }
-    ensures { λ r. ⌜ r ≡ cond like (x + y) (cond (ltb x y) (y - x) (x - y)) ⌝ }
+    ensures { λ r. ⌜ r ≡ sumMagnitude like x y ⌝ }
 {
     let l = larger(x, y);
     let s = smaller(x, y);
@@ -49,7 +57,7 @@ fn total(like: bool, x: u64, y: u64) -> u64
 
 // The sign of the larger one.
 fn sign_of_larger(sx: bool, x: u64, sy: bool, y: u64) -> bool
-    ensures { λ r. ⌜ r ≡ cond (ltb x y) sy sx ⌝ }
+    ensures { λ r. ⌜ r ≡ sumSign sx x sy y ⌝ }
 {
     if x < y { sy } else { sx }
 }
@@ -118,7 +126,8 @@ fn special_sum(a: u16, b: u16) -> Outcome
     Outcome { half: b, flags: de }
 }
 
-pub fn add(mode: Mode, unmasked: bool, a: u16, b: u16) -> Outcome
+// The sum of any operands.
+fn any_sum(mode: Mode, unmasked: bool, a: u16, b: u16) -> Outcome
     ensures { λ r. ⌜ r ≡ halfAdd mode unmasked a b ⌝ }
 {
     if !operands::all_finite(a, b, b) {
@@ -132,11 +141,68 @@ pub fn add(mode: Mode, unmasked: bool, a: u16, b: u16) -> Outcome
     operands::with_flags(operands::denormal_flag(a, b, b), o)
 }
 
+// Two normal halves have their digits in 64 bits, at one exponent.
+fn normal_sum(a: u16, b: u16) -> Sum
+    requires { ⌜ (isNormal a ≡ true) × (isNormal b ≡ true) ⌝ }
+    ensures { λ r. ⌜ Summed (negative a) (units a * 2 ^ 33) (negative b) (units b * 2 ^ 33) r ⌝ }
+{
+    let x = normal::magnitude(a);
+    let y = normal::magnitude(b);
+    let sx = fields::sign_of(a);
+    let sy = fields::sign_of(b);
+    Sum {
+        neg: sign_of_larger(sx, x, sy, y),
+        digits: total(sx == sy, x, y),
+        exponent: 32,
+    }
+}
+
+fn lower(i: u32, j: u32) -> u32
+    ensures { λ r. ⌜ r ≡ min i j ⌝ }
+{
+    if i < j { i } else { j }
+}
+
+// ±x * 2^i and ±y * 2^j added, a product and an addend: at the lower one of the exponents their digits have room in 64 bits.
+pub(crate) fn shifted_sum(sx: bool, x: u64, i: u32, sy: bool, y: u64, j: u32) -> Sum
+    requires { ⌜ (x < 2 ^ 22) × (y < 2 ^ 11) × (9 ≤ i) × (i ≤ 67) × (33 ≤ j) × (j ≤ 62) ⌝ }
+    ensures { λ r. ⌜ Summed sx (x * 2 ^ i) sy (y * 2 ^ j) r ⌝ }
+{
+    let low = lower(i, j);
+    let xs = x << (i - low);
+    let ys = y << (j - low);
+    Sum {
+        neg: sign_of_larger(sx, xs, sy, ys),
+        digits: total(sx == sy, xs, ys),
+        exponent: low,
+    }
+}
+
+pub fn add(mode: Mode, unmasked: bool, a: u16, b: u16) -> Outcome
+    ensures { λ r. ⌜ r ≡ halfAdd mode unmasked a b ⌝ }
+{
+    if !normal::is_normal(a) {
+        return any_sum(mode, unmasked, a, b);
+    }
+    if !normal::is_normal(b) {
+        return any_sum(mode, unmasked, a, b);
+    }
+    let s = normal_sum(a, b);
+    if !normal::is_large(s.digits, s.exponent) {
+        return any_sum(mode, unmasked, a, b);
+    }
+    normal::round_large(mode, s.neg, s.digits, s.exponent)
+}
+
+// The sign turned, but that of a NaN.
+fn subtrahend(b: u16) -> u16
+    ensures { λ r. ⌜ r ≡ cond (isNan b) b (negated b) ⌝ }
+{
+    if fields::nan(b) { b } else { b ^ 0x8000 }
+}
+
 pub fn subtract(mode: Mode, unmasked: bool, a: u16, b: u16) -> Outcome
     ensures { λ r. ⌜ r ≡ halfSubtract mode unmasked a b ⌝ }
 {
-    if operands::any_nan(a, b, b) {
-        return operands::nan_result(a, b, b);
-    }
-    add(mode, unmasked, a, b ^ 0x8000)
+    add(mode, unmasked, a, subtrahend(b))
 }

@@ -1,40 +1,57 @@
-use Rattle.half.proofs.Units.{finite-le}
+use native.Mathlib.Omega.{arith}
 use mathlib.Core.Path.{sym, _∙_}
-use borrow.Author.Tests.{not-false, not-true}
-use Rattle.half.proofs.Cases.{third, finite-multiply-add}
+use borrow.Author.Tests.{not-false, leb-true}
+use Rattle.half.proofs.Normals.{all-normal}
+use Rattle.half.proofs.Sums.{fused-rounds}
 use borrow.Author.Needs.{needs}
 use Rattle.half.proofs.fused.multiply_add.Statement.{statement}
 use Rattle.half.proofs.fused.multiply_add.Tie as tie
 
-all-finite-requires : tie.Need-all-finite-requires
-all-finite-requires c κs = search needs
+is-normal-requires : tie.Need-is-normal-requires
+is-normal-requires c κs = search needs
 
-special-fused-requires : tie.Need-special-fused-requires
-special-fused-requires c κs = sym (c .before .all-finite .ensures) ∙ not-true (c .before .all-finite .result) (c .if1 .taken)
+is-normal-requires-2 : tie.Need-is-normal-requires-2
+is-normal-requires-2 c κs = search needs
+
+is-normal-requires-3 : tie.Need-is-normal-requires-3
+is-normal-requires-3 c κs = search needs
+
+any-fused-requires : tie.Need-any-fused-requires
+any-fused-requires c κs = search needs
 
 returns : tie.Need-returns
-returns c = c .special-fused .ensures _ _
+returns c = search needs
 
-finite-fused-requires : tie.Need-finite-fused-requires
-finite-fused-requires c κs = finite-le (c .before .before .args .c) (third (c .before .before .args .mode) (c .before .before .args .unmasked) (c .before .before .args .a) (c .before .before .args .b) (c .before .before .args .c) (sym (c .before .all-finite .ensures) ∙ not-false (c .before .all-finite .result) (c .if1 .left)))
+normal-fused-requires : tie.Need-normal-fused-requires
+normal-fused-requires c κs = all-normal (c .before .before .before .before .args .a) (c .before .before .before .before .args .b) (c .before .before .before .before .args .c) (c .before .before .before .is-normal .ensures) (c .before .before .is-normal2 .ensures) (c .before .is-normal3 .ensures) (not-false _ (c .if1 .left))
 
-denormal-flag-requires : tie.Need-denormal-flag-requires
-denormal-flag-requires c κs = search needs
+is-large-requires : tie.Need-is-large-requires
+is-large-requires c κs = c .normal-fused .ensures .room
 
-with-flags-requires : tie.Need-with-flags-requires
-with-flags-requires c κs = search needs
+any-fused-requires-2 : tie.Need-any-fused-requires-2
+any-fused-requires-2 c κs = search needs
 
 returns-2 : tie.Need-returns-2
-returns-2 c = c .with-flags .ensures ∙ rw (c .before .denormal-flag .ensures, c .before .before .finite-fused .ensures) (sym (finite-multiply-add _ _ (c .before .before .before .before .before .args .a) (c .before .before .before .before .before .args .b) (c .before .before .before .before .before .args .c) (sym (c .before .before .before .before .all-finite .ensures) ∙ not-false (c .before .before .before .before .all-finite .result) (c .before .before .before .if1 .left))))
+returns-2 c = search needs
+
+round-large-requires : tie.Need-round-large-requires
+round-large-requires c κs = (leb-true _ _ (sym (c .before .is-large .ensures) ∙ not-false (c .before .is-large .result) (c .if2 .left)), omega (arith, c .before .before .normal-fused .ensures .room))
+
+returns-3 : tie.Need-returns-3
+returns-3 c = let n = all-normal (c .before .before .before .before .before .before .before .before .args .a) (c .before .before .before .before .before .before .before .before .args .b) (c .before .before .before .before .before .before .before .before .args .c) (c .before .before .before .before .before .before .before .is-normal .ensures) (c .before .before .before .before .before .before .is-normal2 .ensures) (c .before .before .before .before .before .is-normal3 .ensures) (not-false _ (c .before .before .before .before .if1 .left)) in fused-rounds _ _ (c .before .before .before .before .before .before .before .before .args .a) (c .before .before .before .before .before .before .before .before .args .b) (c .before .before .before .before .before .before .before .before .args .c) (n .0) (n .1) (n .2) (c .before .before .before .normal-fused .ensures) (leb-true _ _ (sym (c .before .before .is-large .ensures) ∙ not-false (c .before .before .is-large .result) (c .before .if2 .left))) (c .round-large .ensures)
 
 pub multiply-add-spec : {M : Type 1} → statement M
 multiply-add-spec =
     tie.close
     (tie.spec
-    all-finite-requires
-    special-fused-requires
+    is-normal-requires
+    is-normal-requires-2
+    is-normal-requires-3
+    any-fused-requires
     returns
-    finite-fused-requires
-    denormal-flag-requires
-    with-flags-requires
-    returns-2)
+    normal-fused-requires
+    is-large-requires
+    any-fused-requires-2
+    returns-2
+    round-large-requires
+    returns-3)

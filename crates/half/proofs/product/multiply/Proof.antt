@@ -1,48 +1,42 @@
 use mathlib.Core.Path.{sym, _∙_}
-use borrow.Author.Tests.{not-false, not-true}
-use Rattle.half.proofs.Cases.{finite-multiply}
-use Rattle.half.proofs.Sums.{beside, product-rounded}
+use borrow.Author.Tests.{not-false}
 use borrow.Author.Needs.{needs}
 use Rattle.half.proofs.product.multiply.Statement.{statement}
 use Rattle.half.proofs.product.multiply.Tie as tie
 
-all-finite-requires : tie.Need-all-finite-requires
-all-finite-requires c κs = search needs
+is-normal-requires : tie.Need-is-normal-requires
+is-normal-requires c κs = search needs
 
-special-product-requires : tie.Need-special-product-requires
-special-product-requires c κs = sym (c .before .all-finite .ensures) ∙ not-true (c .before .all-finite .result) (c .if1 .taken)
+any-product-requires : tie.Need-any-product-requires
+any-product-requires c κs = search needs
 
 returns : tie.Need-returns
-returns c = c .special-product .ensures _ _
+returns c = search needs
 
-unlike-signs-requires : tie.Need-unlike-signs-requires
-unlike-signs-requires c κs = search needs
+is-normal-requires-2 : tie.Need-is-normal-requires-2
+is-normal-requires-2 c κs = search needs
 
-product-place-requires : tie.Need-product-place-requires
-product-place-requires c κs = search needs
-
-round-requires : tie.Need-round-requires
-round-requires c κs = search needs
-
-denormal-flag-requires : tie.Need-denormal-flag-requires
-denormal-flag-requires c κs = search needs
-
-with-flags-requires : tie.Need-with-flags-requires
-with-flags-requires c κs = search needs
+any-product-requires-2 : tie.Need-any-product-requires-2
+any-product-requires-2 c κs = search needs
 
 returns-2 : tie.Need-returns-2
-returns-2 c = beside (c .before .before .before .before .before .before .before .args .a) (c .before .before .before .before .before .before .before .args .b) (c .before .denormal-flag .ensures) (c .with-flags .ensures) (product-rounded (c .before .before .before .before .before .before .before .args .mode) (c .before .before .before .before .before .before .before .args .unmasked) (c .before .before .before .before .before .before .before .args .a) (c .before .before .before .before .before .before .before .args .b) (c .before .before .before .before .unlike-signs .ensures) (c .before .before .before .product-place .ensures) (c .before .before .round .ensures)) ∙ sym (finite-multiply _ _ (c .before .before .before .before .before .before .before .args .a) (c .before .before .before .before .before .before .before .args .b) (sym (c .before .before .before .before .before .before .all-finite .ensures) ∙ not-false (c .before .before .before .before .before .before .all-finite .result) (c .before .before .before .before .before .if1 .left)))
+returns-2 c = search needs
+
+normal-product-requires : tie.Need-normal-product-requires
+normal-product-requires c κs = (sym (c .before .before .before .is-normal .ensures) ∙ not-false (c .before .before .before .is-normal .result) (c .before .before .if1 .left), sym (c .before .is-normal2 .ensures) ∙ not-false (c .before .is-normal2 .result) (c .if2 .left))
+
+returns-3 : tie.Need-returns-3
+returns-3 c = search needs
 
 pub multiply-spec : {M : Type 1} → statement M
 multiply-spec =
     tie.close
     (tie.spec
-    all-finite-requires
-    special-product-requires
+    is-normal-requires
+    any-product-requires
     returns
-    unlike-signs-requires
-    product-place-requires
-    round-requires
-    denormal-flag-requires
-    with-flags-requires
-    returns-2)
+    is-normal-requires-2
+    any-product-requires-2
+    returns-2
+    normal-product-requires
+    returns-3)

@@ -1,67 +1,42 @@
-use Rattle.half.proofs.Cases.{finite-divide, divisor-not-zero, ordinary}
 use mathlib.Core.Path.{sym, _∙_}
-use borrow.Author.Tests.{not-false, not-true}
-use Rattle.half.proofs.Sums.{beside}
-use Rattle.half.proofs.Quotients.{one-small, divisor-pos, quotient-units}
+use borrow.Author.Tests.{not-false}
 use borrow.Author.Needs.{needs}
 use Rattle.half.proofs.quotient.divide.Statement.{statement}
 use Rattle.half.proofs.quotient.divide.Tie as tie
 
-finite-requires : tie.Need-finite-requires
-finite-requires c κs = search needs
+is-normal-requires : tie.Need-is-normal-requires
+is-normal-requires c κs = search needs
 
-finite-requires-2 : tie.Need-finite-requires-2
-finite-requires-2 c κs = search needs
-
-zero-requires : tie.Need-zero-requires
-zero-requires c κs = search needs
-
-special-quotient-requires : tie.Need-special-quotient-requires
-special-quotient-requires c κs = ordinary (c .before .before .before .before .args .a) (c .before .before .before .before .args .b) (c .before .before .before .finite .ensures) (c .before .before .finite2 .ensures) (c .before .zero .ensures) (not-true _ (c .if1 .taken))
+any-quotient-requires : tie.Need-any-quotient-requires
+any-quotient-requires c κs = search needs
 
 returns : tie.Need-returns
-returns c = c .special-quotient .ensures _ _
+returns c = search needs
 
-unlike-signs-requires : tie.Need-unlike-signs-requires
-unlike-signs-requires c κs = search needs
+is-normal-requires-2 : tie.Need-is-normal-requires-2
+is-normal-requires-2 c κs = search needs
 
-significand-beside-requires : tie.Need-significand-beside-requires
-significand-beside-requires c κs = search needs
-
-significand-beside-requires-2 : tie.Need-significand-beside-requires-2
-significand-beside-requires-2 c κs = search needs
-
-finite-quotient-requires : tie.Need-finite-quotient-requires
-finite-quotient-requires c κs =
-    let f = ordinary (c .before .before .before .before .before .before .before .args .a) (c .before .before .before .before .before .before .before .args .b) (c .before .before .before .before .before .before .finite .ensures) (c .before .before .before .before .before .finite2 .ensures) (c .before .before .before .before .zero .ensures) (not-false _ (c .before .before .before .if1 .left)) in
-    (one-small (c .before .before .before .before .before .before .before .args .a) (c .before .before .before .before .before .before .before .args .b) (c .before .significand-beside .ensures) (c .significand-beside2 .ensures), divisor-pos (c .before .before .before .before .before .before .before .args .a) (c .before .before .before .before .before .before .before .args .b) (c .before .significand-beside .ensures) (c .significand-beside2 .ensures) (divisor-not-zero (c .before .before .before .before .before .before .before .args .mode) (c .before .before .before .before .before .before .before .args .unmasked) (c .before .before .before .before .before .before .before .args .a) (c .before .before .before .before .before .before .before .args .b) f))
-
-denormal-flag-requires : tie.Need-denormal-flag-requires
-denormal-flag-requires c κs = search needs
-
-with-flags-requires : tie.Need-with-flags-requires
-with-flags-requires c κs = search needs
+any-quotient-requires-2 : tie.Need-any-quotient-requires-2
+any-quotient-requires-2 c κs = search needs
 
 returns-2 : tie.Need-returns-2
-returns-2 c =
-    let f = ordinary (c .before .before .before .before .before .before .before .before .before .before .args .a) (c .before .before .before .before .before .before .before .before .before .before .args .b) (c .before .before .before .before .before .before .before .before .before .finite .ensures) (c .before .before .before .before .before .before .before .before .finite2 .ensures) (c .before .before .before .before .before .before .before .zero .ensures) (not-false _ (c .before .before .before .before .before .before .if1 .left)) in
-    let q = quotient-units (c .before .before .before .before .before .before .before .before .before .before .args .a) (c .before .before .before .before .before .before .before .before .before .before .args .b) (c .before .before .before .before .significand-beside .ensures) (c .before .before .before .significand-beside2 .ensures) _ _ _ (divisor-not-zero (c .before .before .before .before .before .before .before .before .before .before .args .mode) (c .before .before .before .before .before .before .before .before .before .before .args .unmasked) (c .before .before .before .before .before .before .before .before .before .before .args .a) (c .before .before .before .before .before .before .before .before .before .before .args .b) f) (c .before .before .finite-quotient .ensures) in
-    beside (c .before .before .before .before .before .before .before .before .before .before .args .a) (c .before .before .before .before .before .before .before .before .before .before .args .b) (c .before .denormal-flag .ensures) (c .with-flags .ensures) (q ∙ rw (c .before .before .before .before .before .unlike-signs .ensures))
-    ∙ sym (finite-divide _ _ (c .before .before .before .before .before .before .before .before .before .before .args .a) (c .before .before .before .before .before .before .before .before .before .before .args .b) f)
+returns-2 c = search needs
+
+normal-quotient-requires : tie.Need-normal-quotient-requires
+normal-quotient-requires c κs = (sym (c .before .before .before .is-normal .ensures) ∙ not-false (c .before .before .before .is-normal .result) (c .before .before .if1 .left), sym (c .before .is-normal2 .ensures) ∙ not-false (c .before .is-normal2 .result) (c .if2 .left))
+
+returns-3 : tie.Need-returns-3
+returns-3 c = search needs
 
 pub divide-spec : {M : Type 1} → statement M
 divide-spec =
     tie.close
     (tie.spec
-    finite-requires
-    finite-requires-2
-    zero-requires
-    special-quotient-requires
+    is-normal-requires
+    any-quotient-requires
     returns
-    unlike-signs-requires
-    significand-beside-requires
-    significand-beside-requires-2
-    finite-quotient-requires
-    denormal-flag-requires
-    with-flags-requires
-    returns-2)
+    is-normal-requires-2
+    any-quotient-requires-2
+    returns-2
+    normal-quotient-requires
+    returns-3)

@@ -1,3 +1,4 @@
+use native.Mathlib.Omega.{arith}
 use mathlib.Core.Path.{sym, _∙_}
 use Rattle.half.proofs.Quotients.{in-range}
 use Rattle.half.proofs.Sticky.{far-too-large, placed-fraction}
@@ -11,8 +12,11 @@ overflow-requires c κs = search needs
 returns : tie.Need-returns
 returns c = c .overflow .ensures ∙ sym (far-too-large _ _ _ (c .before .before .args .x) (c .before .before .args .y) (c .before .before .pre .1) (c .before .if1 .taken))
 
+mul-quotient-place : tie.Need-mul-quotient-place
+mul-quotient-place c = omega (arith, in-range (c .before .args .x) (c .before .args .y) (c .if1 .left) (c .before .pre .0))
+
 quotient-place-requires : tie.Need-quotient-place-requires
-quotient-place-requires c κs = (in-range (c .before .args .x) (c .before .args .y) (c .if1 .left) (c .before .pre .0), c .before .pre .1)
+quotient-place-requires c κs = (omega (arith, in-range (c .before .args .x) (c .before .args .y) (c .if1 .left) (c .before .pre .0)), c .before .pre .1)
 
 round-requires : tie.Need-round-requires
 round-requires c κs = search needs
@@ -22,4 +26,4 @@ returns-2 c = placed-fraction _ _ _ (c .before .before .before .args .x) (c .bef
 
 pub finite-quotient-spec : {M : Type 1} → statement M
 finite-quotient-spec =
-    tie.close (tie.spec overflow-requires returns quotient-place-requires round-requires returns-2)
+    tie.close (tie.spec overflow-requires returns mul-quotient-place quotient-place-requires round-requires returns-2)

@@ -1,6 +1,6 @@
 use native.Mathlib.Omega.{arith}
 use Rattle.half.proofs.Units.{units-pos}
-use Rattle.half.proofs.Sticky.{exponent-le, radicand-lt, root-rounded}
+use Rattle.half.proofs.Radicands.{exponent-le, radicand-lt, finite-radicand, root-digits, root-rounds}
 use borrow.Author.Needs.{needs}
 use Rattle.half.proofs.root.finite_root.Statement.{statement}
 use Rattle.half.proofs.root.finite_root.Tie as tie
@@ -23,20 +23,17 @@ shr-root-place c = omega (arith, exponent-le (c .before .before .args .a) (c .be
 root-place-requires : tie.Need-root-place-requires
 root-place-requires c κs = radicand-lt (c .before .before .args .a) (c .before .magnitude .result) (c .half-exponent .result) (c .before .magnitude .ensures) (c .before .before .pre .0) (c .before .before .pre .1) (c .half-exponent .ensures)
 
-add-round : tie.Need-add-round
-add-round c = omega (arith, exponent-le (c .before .before .before .args .a) (c .before .before .magnitude .result) (c .before .half-exponent .result) (c .before .before .magnitude .ensures) (c .before .before .before .pre .0) (c .before .before .before .pre .1) (c .before .half-exponent .ensures))
+place-of-requires : tie.Need-place-of-requires
+place-of-requires c κs = search needs
 
-cast-round : tie.Need-cast-round
-cast-round c = search needs
+add-packed : tie.Need-add-packed
+add-packed c = omega (arith, exponent-le (c .before .before .before .before .args .a) (c .before .before .before .magnitude .result) (c .before .before .half-exponent .result) (c .before .before .before .magnitude .ensures) (c .before .before .before .before .pre .0) (c .before .before .before .before .pre .1) (c .before .before .half-exponent .ensures))
 
-shl-round : tie.Need-shl-round
-shl-round c = omega (arith, exponent-le (c .before .before .before .args .a) (c .before .before .magnitude .result) (c .before .half-exponent .result) (c .before .before .magnitude .ensures) (c .before .before .before .pre .0) (c .before .before .before .pre .1) (c .before .half-exponent .ensures))
-
-round-requires : tie.Need-round-requires
-round-requires c κs = search needs
+packed-requires : tie.Need-packed-requires
+packed-requires c κs = let r = root-digits (finite-radicand (c .before .before .before .before .args .a) (c .before .before .before .magnitude .result) (c .before .before .half-exponent .result) (c .before .before .before .magnitude .ensures) (c .before .before .before .before .pre .0) (c .before .before .before .before .pre .1) (c .before .before .half-exponent .ensures) (c .before .root-place .ensures) (c .place-of .ensures)) in (r .0, r .1, omega (arith, exponent-le (c .before .before .before .before .args .a) (c .before .before .before .magnitude .result) (c .before .before .half-exponent .result) (c .before .before .before .magnitude .ensures) (c .before .before .before .before .pre .0) (c .before .before .before .before .pre .1) (c .before .before .half-exponent .ensures)))
 
 returns : tie.Need-returns
-returns c = root-rounded (c .before .before .before .before .args .a) (c .before .before .before .magnitude .result) (c .before .before .half-exponent .result) (c .before .before .before .magnitude .ensures) (c .before .before .before .before .pre .0) (c .before .before .before .before .pre .1) (c .before .before .half-exponent .ensures) (c .before .before .before .before .args .mode) (c .before .before .before .before .args .unmasked) _ (c .before .root-place .ensures) (c .round .ensures)
+returns c = root-rounds (finite-radicand (c .before .before .before .before .before .args .a) (c .before .before .before .before .magnitude .result) (c .before .before .before .half-exponent .result) (c .before .before .before .before .magnitude .ensures) (c .before .before .before .before .before .pre .0) (c .before .before .before .before .before .pre .1) (c .before .before .before .half-exponent .ensures) (c .before .before .root-place .ensures) (c .before .place-of .ensures)) _ _ (c .packed .ensures)
 
 pub finite-root-spec : {M : Type 1} → statement M
 finite-root-spec =
@@ -48,8 +45,7 @@ finite-root-spec =
     cast-root-place
     shr-root-place
     root-place-requires
-    add-round
-    cast-round
-    shl-round
-    round-requires
+    place-of-requires
+    add-packed
+    packed-requires
     returns)

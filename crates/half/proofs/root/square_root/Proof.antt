@@ -1,47 +1,44 @@
+use Rattle.half.specs.Format.{isFinite}
 use mathlib.Core.Path.{sym, _∙_}
-use borrow.Author.Tests.{not-false, not-true}
-use Rattle.half.proofs.Cases.{radicand, root-finite, finite-root}
+use borrow.Author.Tests.{not-false}
+use Rattle.half.proofs.Compare.{and-false}
 use borrow.Author.Needs.{needs}
 use Rattle.half.proofs.root.square_root.Statement.{statement}
 use Rattle.half.proofs.root.square_root.Tie as tie
 
-finite-requires : tie.Need-finite-requires
-finite-requires c κs = search needs
-
 sign-of-requires : tie.Need-sign-of-requires
 sign-of-requires c κs = search needs
 
-zero-requires : tie.Need-zero-requires
-zero-requires c κs = search needs
-
 special-root-requires : tie.Need-special-root-requires
-special-root-requires c κs = radicand (c .before .before .before .before .args .a) (c .before .before .before .finite .ensures) (c .before .before .sign-of .ensures) (c .before .zero .ensures) (not-true _ (c .if1 .taken))
+special-root-requires c κs = rw (← (c .before .sign-of .ensures), c .if1 .taken, and-false (isFinite (c .before .before .args .a)))
 
 returns : tie.Need-returns
 returns c = c .special-root .ensures _ _
 
-finite-root-requires : tie.Need-finite-root-requires
-finite-root-requires c κs = root-finite (c .before .before .before .before .args .a) (radicand (c .before .before .before .before .args .a) (c .before .before .before .finite .ensures) (c .before .before .sign-of .ensures) (c .before .zero .ensures) (not-false _ (c .if1 .left)))
+is-normal-requires : tie.Need-is-normal-requires
+is-normal-requires c κs = search needs
 
-denormal-flag-requires : tie.Need-denormal-flag-requires
-denormal-flag-requires c κs = search needs
-
-with-flags-requires : tie.Need-with-flags-requires
-with-flags-requires c κs = search needs
+any-root-requires : tie.Need-any-root-requires
+any-root-requires c κs = search needs
 
 returns-2 : tie.Need-returns-2
-returns-2 c = c .with-flags .ensures ∙ rw (c .before .denormal-flag .ensures, c .before .before .finite-root .ensures) (sym (finite-root (c .before .before .before .before .before .before .before .args .a) (radicand (c .before .before .before .before .before .before .before .args .a) (c .before .before .before .before .before .before .finite .ensures) (c .before .before .before .before .before .sign-of .ensures) (c .before .before .before .before .zero .ensures) (not-false _ (c .before .before .before .if1 .left))) _ _))
+returns-2 c = c .any-root .ensures _
+
+normal-root-requires : tie.Need-normal-root-requires
+normal-root-requires c κs = (sym (c .before .is-normal .ensures) ∙ not-false (c .before .is-normal .result) (c .if2 .left), sym (c .before .before .before .sign-of .ensures) ∙ c .before .before .if1 .left)
+
+returns-3 : tie.Need-returns-3
+returns-3 c = c .normal-root .ensures _
 
 pub square-root-spec : {M : Type 1} → statement M
 square-root-spec =
     tie.close
     (tie.spec
-    finite-requires
     sign-of-requires
-    zero-requires
     special-root-requires
     returns
-    finite-root-requires
-    denormal-flag-requires
-    with-flags-requires
-    returns-2)
+    is-normal-requires
+    any-root-requires
+    returns-2
+    normal-root-requires
+    returns-3)

@@ -1,66 +1,60 @@
-use mathlib.Core.Path.{sym, _∙_}
 use native.Mathlib.Omega.{arith}
-use Rattle.half.proofs.Cases.{finite-add}
-use borrow.Author.Tests.{not-false, not-true}
-use Rattle.half.proofs.Sums.{beside, sum-units}
-use Rattle.half.proofs.Units.{units-lt}
+use mathlib.Core.Path.{sym, _∙_}
+use borrow.Author.Tests.{not-false, leb-true}
+use Rattle.half.proofs.Sums.{add-rounds}
 use borrow.Author.Needs.{needs}
 use Rattle.half.proofs.sum.add.Statement.{statement}
 use Rattle.half.proofs.sum.add.Tie as tie
 
-all-finite-requires : tie.Need-all-finite-requires
-all-finite-requires c κs = search needs
+is-normal-requires : tie.Need-is-normal-requires
+is-normal-requires c κs = search needs
 
-special-sum-requires : tie.Need-special-sum-requires
-special-sum-requires c κs = sym (c .before .all-finite .ensures) ∙ not-true (c .before .all-finite .result) (c .if1 .taken)
+any-sum-requires : tie.Need-any-sum-requires
+any-sum-requires c κs = search needs
 
 returns : tie.Need-returns
-returns c = c .special-sum .ensures _ _
+returns c = search needs
 
-magnitude-requires : tie.Need-magnitude-requires
-magnitude-requires c κs = search needs
+is-normal-requires-2 : tie.Need-is-normal-requires-2
+is-normal-requires-2 c κs = search needs
 
-mul-x : tie.Need-mul-x
-mul-x c = omega (arith, units-lt (c .before .before .before .args .a))
-
-magnitude-requires-2 : tie.Need-magnitude-requires-2
-magnitude-requires-2 c κs = search needs
-
-mul-y : tie.Need-mul-y
-mul-y c = omega (arith, units-lt (c .before .before .before .before .args .b))
-
-sign-of-requires : tie.Need-sign-of-requires
-sign-of-requires c κs = search needs
-
-sign-of-requires-2 : tie.Need-sign-of-requires-2
-sign-of-requires-2 c κs = search needs
-
-finite-sum-requires : tie.Need-finite-sum-requires
-finite-sum-requires c κs = omega (arith, units-lt (c .before .before .before .before .before .before .args .a), units-lt (c .before .before .before .before .before .before .args .b))
-
-denormal-flag-requires : tie.Need-denormal-flag-requires
-denormal-flag-requires c κs = search needs
-
-with-flags-requires : tie.Need-with-flags-requires
-with-flags-requires c κs = search needs
+any-sum-requires-2 : tie.Need-any-sum-requires-2
+any-sum-requires-2 c κs = search needs
 
 returns-2 : tie.Need-returns-2
-returns-2 c = beside (c .before .before .before .before .before .before .before .before .before .args .a) (c .before .before .before .before .before .before .before .before .before .args .b) (c .before .denormal-flag .ensures) (c .with-flags .ensures) (sum-units (c .before .before .before .before .before .before .before .before .before .args .mode) (c .before .before .before .before .before .before .before .before .before .args .unmasked) (c .before .before .before .before .before .before .before .before .before .args .a) (c .before .before .before .before .before .before .before .before .before .args .b) (c .before .before .before .before .before .before .magnitude .ensures) (c .before .before .before .before .before .magnitude2 .ensures) (c .before .before .before .before .sign-of .ensures) (c .before .before .before .sign-of2 .ensures) (c .before .before .finite-sum .ensures)) ∙ sym (finite-add _ _ (c .before .before .before .before .before .before .before .before .before .args .a) (c .before .before .before .before .before .before .before .before .before .args .b) (sym (c .before .before .before .before .before .before .before .before .all-finite .ensures) ∙ not-false (c .before .before .before .before .before .before .before .before .all-finite .result) (c .before .before .before .before .before .before .before .if1 .left)))
+returns-2 c = search needs
+
+normal-sum-requires : tie.Need-normal-sum-requires
+normal-sum-requires c κs = (sym (c .before .before .before .is-normal .ensures) ∙ not-false (c .before .before .before .is-normal .result) (c .before .before .if1 .left), sym (c .before .is-normal2 .ensures) ∙ not-false (c .before .is-normal2 .result) (c .if2 .left))
+
+is-large-requires : tie.Need-is-large-requires
+is-large-requires c κs = c .normal-sum .ensures .room
+
+any-sum-requires-3 : tie.Need-any-sum-requires-3
+any-sum-requires-3 c κs = search needs
+
+returns-3 : tie.Need-returns-3
+returns-3 c = search needs
+
+round-large-requires : tie.Need-round-large-requires
+round-large-requires c κs = (leb-true _ _ (sym (c .before .is-large .ensures) ∙ not-false (c .before .is-large .result) (c .if3 .left)), omega (arith, c .before .before .normal-sum .ensures .room))
+
+returns-4 : tie.Need-returns-4
+returns-4 c = add-rounds _ _ (c .before .before .before .before .before .before .before .before .args .a) (c .before .before .before .before .before .before .before .before .args .b) (sym (c .before .before .before .before .before .before .before .is-normal .ensures) ∙ not-false (c .before .before .before .before .before .before .before .is-normal .result) (c .before .before .before .before .before .before .if1 .left)) (sym (c .before .before .before .before .before .is-normal2 .ensures) ∙ not-false (c .before .before .before .before .before .is-normal2 .result) (c .before .before .before .before .if2 .left)) (c .before .before .before .normal-sum .ensures) (leb-true _ _ (sym (c .before .before .is-large .ensures) ∙ not-false (c .before .before .is-large .result) (c .before .if3 .left))) (c .round-large .ensures)
 
 pub add-spec : {M : Type 1} → statement M
 add-spec =
     tie.close
     (tie.spec
-    all-finite-requires
-    special-sum-requires
+    is-normal-requires
+    any-sum-requires
     returns
-    magnitude-requires
-    mul-x
-    magnitude-requires-2
-    mul-y
-    sign-of-requires
-    sign-of-requires-2
-    finite-sum-requires
-    denormal-flag-requires
-    with-flags-requires
-    returns-2)
+    is-normal-requires-2
+    any-sum-requires-2
+    returns-2
+    normal-sum-requires
+    is-large-requires
+    any-sum-requires-3
+    returns-3
+    round-large-requires
+    returns-4)
