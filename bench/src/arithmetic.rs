@@ -1,6 +1,6 @@
-//! The rows of the arithmetic: each operation on random halves and on corners.
+//! The rows of the arithmetic: each operation on random halves, on corners and on tame halves.
 
-use crate::{time, Pass, Row};
+use crate::{tame, time, Pass, Row};
 use ridgecrook_bench::plain;
 use ridgecrook_tests::case::{Case, Operation, Outcome};
 use ridgecrook_tests::random::Random;
@@ -11,12 +11,14 @@ use std::rc::Rc;
 /// So many cases that the processor does not learn their branches by heart.
 const CASES: usize = 65_536;
 
-fn cases(random: &mut Random, half: impl Fn(&mut Random) -> u16) -> Rc<[Case]> {
+/// Cases with operands of one kind, in one mode and with UE masked, or in all modes and either way.
+fn cases(random: &mut Random, mixed: bool, half: impl Fn(&mut Random) -> u16) -> Rc<[Case]> {
+    let [highest_mode, highest_mask] = if mixed { [3, 1] } else { [0, 0] };
     let case = |_| Case {
         // The caller chooses the operation; it takes as many operands as it has.
         operation: Operation::FusedMultiplyAdd,
-        mode: random.within(0, 3) as u32,
-        underflow_unmasked: random.within(0, 1) as u32,
+        mode: random.within(0, highest_mode) as u32,
+        underflow_unmasked: random.within(0, highest_mask) as u32,
         operands: [half(random), half(random), half(random)],
     };
     (0..CASES).map(case).collect()
@@ -72,21 +74,26 @@ fn operations() -> [(&'static str, [Implementation; 2]); 6] {
     ]
 }
 
-fn kinds() -> [(&'static str, Rc<[Case]>); 2] {
+/// The kinds of operands; those of a root are not negative where they are tame.
+fn kinds(root: bool) -> [(&'static str, Rc<[Case]>); 3] {
     let mut random = Random::seeded(5);
     let halves = corners::all();
     let corner = |random: &mut Random| random.one_of(&halves);
+    let sign = if root { 0 } else { 0x8000 };
     [
-        ("random halves", cases(&mut random, Random::half)),
-        ("corners", cases(&mut random, corner)),
+        ("random halves", cases(&mut random, true, Random::half)),
+        ("corners", cases(&mut random, true, corner)),
+        (
+            "tame halves",
+            cases(&mut random, false, |random| tame(random) & (0x7FFF | sign)),
+        ),
     ]
 }
 
 pub fn rows() -> Vec<Row> {
-    let kinds = kinds();
     let mut rows = Vec::new();
     for (name, both) in operations() {
-        for (kind, cases) in &kinds {
+        for (kind, cases) in &kinds(name == "square_root") {
             let passes = both.each_ref().map(|pass_over| pass_over(cases.clone()));
             rows.push(Row::of(name, kind, passes));
         }

@@ -1,4 +1,5 @@
 //! What the benchmark times the library against.
 
 pub mod plain;
+mod plain_double;
 pub mod plain_step;

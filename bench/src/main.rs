@@ -4,6 +4,7 @@
 mod arithmetic;
 mod steps;
 
+use ridgecrook_tests::random::Random;
 use std::time::Instant;
 
 /// Everything is timed once in each round; the least time counts, since whatever else runs on the
@@ -47,6 +48,12 @@ impl Row {
     }
 }
 
+/// A half as embeddings have them, of either sign: from 2 to the -4 to just below 2 to the 4.
+fn tame(random: &mut Random) -> u16 {
+    let [sign, exponent] = [random.within(0, 1), random.within(11, 18)];
+    (sign << 15 | exponent << 10 | random.within(0, 1023)) as u16
+}
+
 /// Nanoseconds a call, where each call hands back a number, and what these numbers come to.
 fn time(calls: usize, mut call: impl FnMut(usize) -> u64) -> Timed {
     let start = Instant::now();
@@ -65,7 +72,8 @@ fn main() {
         rows.iter_mut().for_each(Row::round);
     }
     println!("nanoseconds a call: an operation on halves, or a whole step");
-    println!("operations: modes and operands mixed; {}", steps::SETTING);
+    println!("tame halves: 2 to the -4 to 2 to the 4, in mode 0 alone; else modes mixed;");
+    println!("{}", steps::SETTING);
     println!(
         "{:<20} {:<20} {:>10} {:>10} {:>8}",
         "call", "on", "library", "plain", "ratio"

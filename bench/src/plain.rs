@@ -1,21 +1,11 @@
-//! The half arithmetic with the same modes and six flags, unproved and written for speed: finite
-//! operands go through f64. Integers were tried too: within about an eighth of this, faster for
-//! some operands and slower for others, but half as fast for the root.
+//! The half arithmetic with the same modes and six flags, unproved and written for speed: normal
+//! operands by integers, as a good engineer would write it without proofs; all others, and results
+//! that are zero or may be subnormal, through f64 (`plain_double`).
 //!
 //! A function stands by itself (`inline(never)`), since the library's is called too.
 
-use ridgecrook_tests::case::{Arithmetic, Outcome, DE, IE, OE, PE, UE, ZE};
-
-const SIGN: u16 = 0x8000;
-const INFINITY: u16 = 0x7C00;
-const LARGEST: u16 = 0x7BFF;
-const QUIET: u16 = 0x0200;
-const INVALID: Outcome = done(0xFE00, IE);
-const BAD_MODE: Outcome = Outcome {
-    half: 0,
-    flags: 0,
-    number: 9,
-};
+use crate::plain_double as double;
+use ridgecrook_tests::case::{Arithmetic, Outcome, OE, PE, UE};
 
 pub const PLAIN: Arithmetic = Arithmetic {
     add,
@@ -26,294 +16,238 @@ pub const PLAIN: Arithmetic = Arithmetic {
     fused_multiply_add,
 };
 
-const fn done(half: u16, flags: u8) -> Outcome {
-    Outcome {
-        half,
-        flags,
-        number: 0,
+const SIGN: u16 = 0x8000;
+const INFINITY: u32 = 0x7C00;
+
+/// By mode and sign (positive, negative): what is added to a number of quarters to round it, but
+/// for the last bit that stays in mode 0.
+const CARRY: [u32; 8] = [1, 1, 0, 3, 3, 0, 0, 0];
+
+/// By mode and sign: the magnitude of an overflow.
+const LARGEST: [u32; 8] = [
+    0x7C00, 0x7C00, 0x7BFF, 0x7C00, 0x7C00, 0x7BFF, 0x7BFF, 0x7BFF,
+];
+
+/// How a result is rounded: the mode, and the place in the tables of it and the sign.
+#[derive(Clone, Copy)]
+struct Rounding {
+    mode: u32,
+    sign: u16,
+    place: usize,
+}
+
+impl Rounding {
+    #[inline(always)]
+    fn of(mode: u32, sign: u16) -> Rounding {
+        let place = (mode * 2 + u32::from(sign >> 15)) as usize & 7;
+        Rounding { mode, sign, place }
+    }
+
+    #[inline(always)]
+    fn whole(self, quarters: u32) -> u32 {
+        (quarters + CARRY[self.place] + (quarters >> 2 & u32::from(self.mode == 0))) >> 2
+    }
+
+    #[inline(always)]
+    fn done(self, magnitude: u32, flags: u8) -> Outcome {
+        Outcome {
+            half: magnitude as u16 | self.sign,
+            flags,
+            number: 0,
+        }
+    }
+
+    /// The half of 13 digits, the last of which says whether something is left below, at an
+    /// exponent from 0 on.
+    #[inline(always)]
+    fn packed(self, digits: u32, exponent: u32) -> Outcome {
+        let magnitude = (exponent << 10) + self.whole(digits);
+        if magnitude >= INFINITY {
+            return self.done(LARGEST[self.place], OE | PE);
+        }
+        self.done(magnitude, inexact(digits))
     }
 }
 
-#[inline]
-fn is_zero(half: u16) -> bool {
-    half & !SIGN == 0
+#[inline(always)]
+fn inexact(digits: u32) -> u8 {
+    u8::from(digits & 3 != 0) << 5
 }
 
-#[inline]
-fn is_finite(half: u16) -> bool {
-    half & INFINITY != INFINITY
+/// The highest 12 of a number's digits, whose highest is bit 63, and whether something is below.
+#[inline(always)]
+fn thirteen(digits: u64) -> u32 {
+    (digits >> 52) as u32 * 2 + u32::from(digits << 12 != 0)
 }
 
-#[inline]
-fn is_nan(half: u16) -> bool {
-    half & !SIGN > INFINITY
+#[inline(always)]
+fn exponent(half: u16) -> u32 {
+    u32::from(half >> 10 & 31)
 }
 
-/// DE for a subnormal operand; zero wraps to a large number.
-#[inline]
-fn denormal(half: u16) -> u8 {
-    if (half & !SIGN).wrapping_sub(1) < 0x03FF {
-        DE
-    } else {
-        0
-    }
+#[inline(always)]
+fn significand(half: u16) -> u32 {
+    u32::from(half & 0x03FF | 0x0400)
 }
 
-/// The first NaN of the operands, if there is one.
-#[inline]
-fn nan(operands: &[u16]) -> Option<Outcome> {
-    let first = operands.iter().find(|&&half| is_nan(half))?;
-    let is_signalling = |&half: &u16| is_nan(half) && half & QUIET == 0;
-    let flags = if operands.iter().any(is_signalling) {
-        IE
-    } else {
-        0
-    };
-    Some(done(first | QUIET, flags))
+/// The exponent field is 1 to 30.
+#[inline(always)]
+fn is_normal(half: u16) -> bool {
+    0x7FFF_FFFE_u32 >> exponent(half) & 1 == 1
 }
 
-/// A finite half as the f64 of the same value.
-#[inline]
-fn value(half: u16) -> f64 {
-    let magnitude = u64::from(half & !SIGN);
-    let bits = if magnitude >= 0x0400 {
-        // Move the exponent and change its bias from 15 to 1023.
-        (magnitude << 42) + (1008 << 52)
-    } else {
-        (magnitude as f64 * (1.0 / 16_777_216.0)).to_bits()
-    };
-    f64::from_bits(bits | u64::from(half & SIGN) << 48)
+#[inline(always)]
+fn are_normal(mode: u32, halves: &[u16]) -> bool {
+    mode <= 3 && halves.iter().all(|&half| is_normal(half))
 }
 
-/// The 42 fraction bits that an f64 has more than a half.
-const LOW: u64 = (1 << 42) - 1;
-
-/// What is added at those bits to round by mode and sign (positive, negative), before they are
-/// cut off. In mode 0 the last bit that stays is added too.
-const ROUNDING: [[u64; 2]; 4] = [[LOW >> 1, LOW >> 1], [0, LOW], [LOW, 0], [0, 0]];
-
-/// The bits of 2 to the -14 as an f64.
-const SMALLEST_NORMAL: u64 = 1009 << 52;
-
-/// Rounds x, which is exact, or inexact so far below the bits of a half that it rounds alike.
-#[inline]
-fn round(x: f64, mode: u32, underflow_unmasked: u32, flags: u8) -> Outcome {
-    let bits = x.to_bits();
-    let negative = bits >> 63;
-    let magnitude = bits & !(1 << 63);
-    let sign = (negative as u16) << 15;
-    let last = magnitude >> 42 & u64::from(mode == 0);
-    let addition = ROUNDING[mode as usize & 3][negative as usize];
-    let rounded = magnitude + addition + last;
-    if magnitude < SMALLEST_NORMAL {
-        let tiny = rounded < SMALLEST_NORMAL;
-        return round_small(x, mode, tiny && underflow_unmasked != 0, tiny, flags);
-    }
-    let half = (rounded >> 42) - (1008 << 10);
-    if half >= u64::from(INFINITY) {
-        return overflow(sign, addition != 0, flags);
-    }
-    let inexact = if magnitude & LOW != 0 { PE } else { 0 };
-    done(half as u16 | sign, flags | inexact)
-}
-
-/// An overflow becomes infinity where the mode rounds away from zero or to the nearest.
+/// Below 2 to the -14: `digits` has its highest at bit 31, the exponent is below 0.
 #[inline(never)]
-fn overflow(sign: u16, outward: bool, flags: u8) -> Outcome {
-    let half = if outward { INFINITY } else { LARGEST };
-    done(sign | half, flags | OE | PE)
+fn small(digits: u32, exponent: i32, rounding: Rounding, underflow_unmasked: u32) -> Outcome {
+    let by = 20 + exponent.unsigned_abs();
+    let wide = u64::from(digits);
+    let kept = wide >> by;
+    let quarters = 2 * kept as u32 + u32::from(kept << by != wide);
+    let flag = inexact(quarters);
+    let unlimited = rounding.whole((digits >> 20) * 2 + u32::from(digits << 12 != 0));
+    let is_tiny = exponent < -1 || unlimited < 2048;
+    let is_underflow = is_tiny && (underflow_unmasked != 0 || flag != 0);
+    let underflow = if is_underflow { UE } else { 0 };
+    rounding.done(rounding.whole(quarters), flag | underflow)
 }
 
-/// Rounds x where it is below 2 to the -14.
-#[inline]
-fn round_small(x: f64, mode: u32, underflow: bool, tiny: bool, flags: u8) -> Outcome {
-    let bits = x.to_bits();
-    let sign = (bits >> 48) as u16 & SIGN;
-    let exponent = bits >> 52 & 0x07FF;
-    if exponent == 0 {
-        return done(sign, flags);
+/// A product or quotient of two significands, whose highest digit is bit 20 or 21, and what is
+/// left below it.
+#[inline(always)]
+fn ratio(
+    digits: u32,
+    rest: u32,
+    exponent: i32,
+    rounding: Rounding,
+    underflow_unmasked: u32,
+) -> Outcome {
+    let top = digits >> 21;
+    let digits = digits << (11 - top) | rest;
+    let exponent = exponent + top as i32;
+    if exponent < 0 {
+        return small(digits, exponent, rounding, underflow_unmasked);
     }
-    let significand = bits & ((1 << 52) - 1) | 1 << 52;
-    // From 63 on nothing but the fact that x is not zero is left.
-    let shift = u64::min(42 + 1009 - exponent, 63);
-    let low = significand & ((1 << shift) - 1);
-    let middle = 1 << (shift - 1);
-    let count = (significand >> shift) as u16;
-    let outward = match mode {
-        0 => low > middle || low == middle && count & 1 == 1,
-        1 => low != 0 && sign != 0,
-        2 => low != 0 && sign == 0,
-        _ => false,
-    };
-    let inexact = if low != 0 { PE } else { 0 };
-    let underflow = if underflow || tiny && low != 0 { UE } else { 0 };
-    done(
-        (count + u16::from(outward)) | sign,
-        flags | inexact | underflow,
+    rounding.packed(
+        (digits >> 20) * 2 + u32::from(digits << 12 != 0),
+        exponent as u32,
     )
-}
-
-/// The zero that a sum is.
-#[inline]
-fn zero_sum(first: u16, second: u16, mode: u32, flags: u8) -> Outcome {
-    let like_signs = (first ^ second) & SIGN == 0;
-    let by_mode = if mode == 1 { SIGN } else { 0 };
-    done(if like_signs { second & SIGN } else { by_mode }, flags)
-}
-
-/// a + b where `flip` is 0, a - b where it is the sign bit.
-#[inline]
-fn sum(a: u16, b: u16, flip: u16, mode: u32, underflow_unmasked: u32) -> Outcome {
-    if mode > 3 {
-        return BAD_MODE;
-    }
-    let flags = denormal(a) | denormal(b);
-    if !is_finite(a) || !is_finite(b) {
-        return sum_of_specials(a, b, flip, flags);
-    }
-    let b = b ^ flip;
-    let x = value(a) + value(b);
-    if x == 0.0 {
-        return zero_sum(a, b, mode, flags);
-    }
-    round(x, mode, underflow_unmasked, flags)
-}
-
-#[inline(never)]
-fn sum_of_specials(a: u16, b: u16, flip: u16, flags: u8) -> Outcome {
-    if let Some(outcome) = nan(&[a, b]) {
-        return outcome;
-    }
-    let b = b ^ flip;
-    if !is_finite(a) && !is_finite(b) && a != b {
-        return INVALID;
-    }
-    done(if is_finite(a) { b } else { a }, flags)
-}
-
-#[inline(never)]
-pub fn add(a: u16, b: u16, mode: u32, underflow_unmasked: u32) -> Outcome {
-    sum(a, b, 0, mode, underflow_unmasked)
-}
-
-#[inline(never)]
-pub fn subtract(a: u16, b: u16, mode: u32, underflow_unmasked: u32) -> Outcome {
-    sum(a, b, SIGN, mode, underflow_unmasked)
 }
 
 #[inline(never)]
 pub fn multiply(a: u16, b: u16, mode: u32, underflow_unmasked: u32) -> Outcome {
-    if mode > 3 {
-        return BAD_MODE;
+    if !are_normal(mode, &[a, b]) {
+        return double::multiply(a, b, mode, underflow_unmasked);
     }
-    let flags = denormal(a) | denormal(b);
-    if !is_finite(a) || !is_finite(b) {
-        return product_of_specials(a, b, flags);
-    }
-    round(value(a) * value(b), mode, underflow_unmasked, flags)
-}
-
-#[inline(never)]
-fn product_of_specials(a: u16, b: u16, flags: u8) -> Outcome {
-    if let Some(outcome) = nan(&[a, b]) {
-        return outcome;
-    }
-    if is_zero(a) || is_zero(b) {
-        return INVALID;
-    }
-    done((a ^ b) & SIGN | INFINITY, flags)
+    let digits = significand(a) * significand(b);
+    let e = (exponent(a) + exponent(b)) as i32 - 16;
+    let rounding = Rounding::of(mode, (a ^ b) & SIGN);
+    ratio(digits, 0, e, rounding, underflow_unmasked)
 }
 
 #[inline(never)]
 pub fn divide(a: u16, b: u16, mode: u32, underflow_unmasked: u32) -> Outcome {
-    if mode > 3 {
-        return BAD_MODE;
+    if !are_normal(mode, &[a, b]) {
+        return double::divide(a, b, mode, underflow_unmasked);
     }
-    let flags = denormal(a) | denormal(b);
-    if !is_finite(a) || !is_finite(b) || is_zero(b) {
-        return quotient_of_specials(a, b, flags);
+    let (x, y) = (significand(a) << 21, significand(b));
+    let rest = u32::from(x % y != 0);
+    let e = exponent(a) as i32 - exponent(b) as i32 + 13;
+    let rounding = Rounding::of(mode, (a ^ b) & SIGN);
+    ratio(x / y, rest, e, rounding, underflow_unmasked)
+}
+
+/// a + b of normal halves, where it is not 0 and not below 2 to the -14.
+#[inline(always)]
+fn sum(a: u16, b: u16, mode: u32) -> Option<Outcome> {
+    let (far, near) = if a & !SIGN < b & !SIGN {
+        (b, a)
+    } else {
+        (a, b)
+    };
+    let e = exponent(far);
+    let x = u64::from(significand(far)) << 32;
+    let y = u64::from(significand(near)) << 32 >> (e - exponent(near));
+    let digits = if (a ^ b) & SIGN == 0 { x + y } else { x - y };
+    let zeros = digits.leading_zeros();
+    if digits == 0 || e + 20 < zeros {
+        return None;
     }
-    // 53 bits are more than twice 11 and 2: rounding them again gives what rounding once does.
-    round(value(a) / value(b), mode, underflow_unmasked, flags)
+    Some(Rounding::of(mode, far & SIGN).packed(thirteen(digits << zeros), e + 20 - zeros))
 }
 
 #[inline(never)]
-fn quotient_of_specials(a: u16, b: u16, flags: u8) -> Outcome {
-    if let Some(outcome) = nan(&[a, b]) {
-        return outcome;
+pub fn add(a: u16, b: u16, mode: u32, underflow_unmasked: u32) -> Outcome {
+    if are_normal(mode, &[a, b]) {
+        if let Some(outcome) = sum(a, b, mode) {
+            return outcome;
+        }
     }
-    let sign = (a ^ b) & SIGN;
-    match (is_finite(a), is_finite(b)) {
-        (false, false) => INVALID,
-        (false, true) => done(sign | INFINITY, flags),
-        (true, false) => done(sign, flags),
-        (true, true) if is_zero(a) => INVALID,
-        (true, true) => done(sign | INFINITY, ZE),
-    }
+    double::add(a, b, mode, underflow_unmasked)
 }
 
 #[inline(never)]
-pub fn square_root(a: u16, mode: u32, underflow_unmasked: u32) -> Outcome {
-    if mode > 3 {
-        return BAD_MODE;
+pub fn subtract(a: u16, b: u16, mode: u32, underflow_unmasked: u32) -> Outcome {
+    if are_normal(mode, &[a, b]) {
+        if let Some(outcome) = sum(a, b ^ SIGN, mode) {
+            return outcome;
+        }
     }
-    if !is_finite(a) || a & SIGN != 0 {
-        return root_of_special(a);
-    }
-    round(value(a).sqrt(), mode, underflow_unmasked, denormal(a))
-}
-
-#[inline(never)]
-fn root_of_special(a: u16) -> Outcome {
-    match nan(&[a]) {
-        Some(outcome) => outcome,
-        None if a == SIGN || a == INFINITY => done(a, 0),
-        None => INVALID,
-    }
+    double::subtract(a, b, mode, underflow_unmasked)
 }
 
 #[inline(never)]
 pub fn fused_multiply_add(a: u16, b: u16, c: u16, mode: u32, underflow_unmasked: u32) -> Outcome {
-    if mode > 3 {
-        return BAD_MODE;
+    if !are_normal(mode, &[a, b, c]) {
+        return double::fused_multiply_add(a, b, c, mode, underflow_unmasked);
     }
-    let flags = denormal(a) | denormal(b) | denormal(c);
-    if !is_finite(a) || !is_finite(b) || !is_finite(c) {
-        return fused_of_specials(a, b, c, flags);
+    let i = (exponent(a) + exponent(b)) as i32 - 26;
+    let j = exponent(c) as i32 - 1;
+    let low = i.min(j);
+    let x = u64::from(significand(a) * significand(b)) << (i - low);
+    let y = u64::from(significand(c)) << (j - low);
+    let (larger, smaller) = (x.max(y), x.min(y));
+    let digits = if (a ^ b ^ c) & SIGN == 0 {
+        larger + smaller
+    } else {
+        larger - smaller
+    };
+    let sign = if x < y { c } else { a ^ b } & SIGN;
+    let zeros = digits.leading_zeros();
+    let e = 53 - zeros as i32 + low;
+    if digits == 0 || e < 0 {
+        return double::fused_multiply_add(a, b, c, mode, underflow_unmasked);
     }
-    let x = sum_to_odd(value(a) * value(b), value(c));
-    if x == 0.0 {
-        return zero_sum(a ^ b, c, mode, flags);
+    Rounding::of(mode, sign).packed(thirteen(digits << zeros), e as u32)
+}
+
+/// By the fraction and the exponent's lowest bit: 13 digits of the root, as `packed` takes them.
+static ROOTS: [u16; 2048] = roots();
+
+const fn roots() -> [u16; 2048] {
+    let mut table = [0; 2048];
+    let mut place = 0;
+    while place < 2048 {
+        let radicand = ((place as u32 & 1023) + 1024) << if place < 1024 { 12 } else { 13 };
+        let mut root = 2048_u32;
+        while (root + 1) * (root + 1) <= radicand {
+            root += 1;
+        }
+        table[place] = (root * 2 + (root * root != radicand) as u32) as u16;
+        place += 1;
     }
-    round(x, mode, underflow_unmasked, flags)
+    table
 }
 
 #[inline(never)]
-fn fused_of_specials(a: u16, b: u16, c: u16, flags: u8) -> Outcome {
-    if let Some(outcome) = nan(&[a, b, c]) {
-        return outcome;
+pub fn square_root(a: u16, mode: u32, underflow_unmasked: u32) -> Outcome {
+    if !are_normal(mode, &[a]) || a & SIGN != 0 {
+        return double::square_root(a, mode, underflow_unmasked);
     }
-    if is_finite(a) && is_finite(b) {
-        return done(c, flags);
-    }
-    let product = (a ^ b) & SIGN | INFINITY;
-    if is_zero(a) || is_zero(b) || !is_finite(c) && c != product {
-        return INVALID;
-    }
-    done(product, flags)
-}
-
-/// x + y, rounded to an odd f64 where it is inexact, which rounds on as the exact sum does. What
-/// the sum loses is had exactly by Knuth's two-sum.
-#[inline]
-fn sum_to_odd(x: f64, y: f64) -> f64 {
-    let sum = x + y;
-    let taken = sum - x;
-    let lost = (x - (sum - taken)) + (y - taken);
-    let bits = sum.to_bits();
-    if lost == 0.0 || bits & 1 == 1 {
-        return sum;
-    }
-    let outward = (lost > 0.0) == (sum > 0.0);
-    f64::from_bits(if outward { bits + 1 } else { bits - 1 })
+    let digits = u32::from(ROOTS[usize::from(a & 0x07FF ^ 0x0400)]);
+    Rounding::of(mode, 0).packed(digits, (exponent(a) + 13) / 2)
 }

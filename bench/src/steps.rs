@@ -1,7 +1,7 @@
 //! The rows of steps: each instruction with 32 lanes, and how the time goes with the lanes that are
 //! on.
 
-use crate::{time, Row, Timed};
+use crate::{tame, time, Row, Timed};
 use ridgecrook_bench::plain_step;
 use ridgecrook_tests::assemble::{Encoding, LANES_16, LANES_32, LANES_8};
 use ridgecrook_tests::library;
@@ -15,37 +15,65 @@ const STEPS: usize = 1_000_000;
 /// So many instructions and states of the destination, taken by turns.
 const CODES: usize = 1024;
 
-pub const SETTING: &str = "steps: finite random lanes, the mode from the
-control word, all four mixed, exceptions masked. A million steps a row. Before each step, and timed
-with it, the destination register is filled with random finite lanes; no other buffer is cleared.";
+pub const SETTING: &str = "steps: finite random lanes, or tame ones, the mode from the
+control word, exceptions masked. A million steps a row. Before each step, and timed with it, the
+destination register is filled with such lanes; no other buffer is cleared.";
 
 type Step = fn(&mut Machine, &[u8], &[u8]) -> Answer;
 
+/// The halves of a row's registers and memory.
+#[derive(Clone, Copy)]
+enum Lanes {
+    /// Any finite ones, the four modes mixed.
+    Random,
+    /// As embeddings have them, in mode 0.
+    Tame,
+    /// The same without a sign, for the root.
+    TamePositive,
+}
+
+impl Lanes {
+    fn half(self, random: &mut Random) -> u16 {
+        match self {
+            Lanes::Random => loop {
+                let half = random.half();
+                if half & 0x7C00 != 0x7C00 {
+                    break half;
+                }
+            },
+            Lanes::Tame => tame(random),
+            Lanes::TamePositive => tame(random) & 0x7FFF,
+        }
+    }
+
+    fn bytes(self, random: &mut Random, halves: usize) -> Vec<u8> {
+        (0..halves)
+            .flat_map(|_| self.half(random).to_le_bytes())
+            .collect()
+    }
+
+    /// The control word of a turn.
+    fn control(self, turn: usize) -> u32 {
+        let mode = match self {
+            Lanes::Random => turn as u32 & 3,
+            Lanes::Tame | Lanes::TamePositive => 0,
+        };
+        ALL_MASKED | mode << 13
+    }
+}
+
 /// What a row executes.
 struct Work {
+    lanes: Lanes,
     codes: Vec<Vec<u8>>,
     destinations: Vec<[u8; REGISTER_SIZE]>,
     machine: Machine,
     memory: Vec<u8>,
 }
 
-fn finite(random: &mut Random) -> [u8; 2] {
-    let half = loop {
-        let half = random.half();
-        if half & 0x7C00 != 0x7C00 {
-            break half;
-        }
-    };
-    half.to_le_bytes()
-}
-
-fn finite_bytes(random: &mut Random, halves: usize) -> Vec<u8> {
-    (0..halves).flat_map(|_| finite(random)).collect()
-}
-
 impl Work {
     /// Instructions with destination 0 and sources drawn from the other registers, or memory.
-    fn of(change: impl Fn(&mut Encoding), listed: &Listed, mask: u64) -> Work {
+    fn of(change: impl Fn(&mut Encoding), listed: &Listed, lanes: Lanes, mask: u64) -> Work {
         let mut random = Random::seeded(6);
         let mut codes = Vec::new();
         for _ in 0..CODES {
@@ -56,14 +84,15 @@ impl Work {
             codes.push(encoding.bytes());
         }
         let mut machine = Machine::blank();
-        machine.vectors = finite_bytes(&mut random, 1024);
+        machine.vectors = lanes.bytes(&mut random, 1024);
         machine.masks[1] = mask;
-        let filled = |_| finite_bytes(&mut random, 32).try_into().expect("64 bytes");
+        let filled = |_| lanes.bytes(&mut random, 32).try_into().expect("64 bytes");
         Work {
+            lanes,
             codes,
             destinations: (0..CODES).map(filled).collect(),
             machine,
-            memory: finite_bytes(&mut Random::seeded(8), 2048),
+            memory: lanes.bytes(&mut Random::seeded(8), 2048),
         }
     }
 
@@ -72,7 +101,7 @@ impl Work {
         time(calls, |place| {
             let turn = place % CODES;
             machine.vectors[..REGISTER_SIZE].copy_from_slice(&self.destinations[turn]);
-            machine.control = ALL_MASKED | (turn as u32 & 3) << 13;
+            machine.control = self.lanes.control(turn);
             // An even address, for memory forms.
             machine.general[3] = 2 * turn as u64;
             let answer = step(&mut machine, &self.codes[turn], &self.memory);
@@ -86,12 +115,16 @@ impl Work {
     }
 }
 
-fn row(listed: &Listed, kind: &str, calls: usize, mask: u64, change: fn(&mut Encoding)) -> Row {
-    let work = || Work::of(change, listed, mask);
+/// A row's name, its lanes, mask register k1, and what it changes of a register form with 32 lanes.
+type Kind = (&'static str, Lanes, u64, fn(&mut Encoding));
+
+fn row(listed: &Listed, kind: Kind, calls: usize) -> Row {
+    let (name, lanes, mask, change) = kind;
+    let work = || Work::of(change, listed, lanes, mask);
     let (by_library, by_plain) = (work(), work());
     Row::of(
         listed.name,
-        kind,
+        name,
         [
             Box::new(move || by_library.pass(library::step, calls)),
             Box::new(move || by_plain.pass(plain_step::step, calls)),
@@ -99,19 +132,29 @@ fn row(listed: &Listed, kind: &str, calls: usize, mask: u64, change: fn(&mut Enc
     )
 }
 
-/// A name, mask register k1, and what the row changes of a register form with 32 lanes.
-type LanesOn = (&'static str, u64, fn(&mut Encoding));
+const RANDOM: Kind = ("32 lanes", Lanes::Random, 0, |_| ());
+const TAME: Kind = ("32 lanes, tame", Lanes::Tame, 0, |_| ());
+const TAME_ROOT: Kind = ("32 lanes, tame", Lanes::TamePositive, 0, |_| ());
 
-const LANES_ON: [LanesOn; 9] = [
-    ("8 lanes", 0, |e| e.length = LANES_8),
-    ("16 lanes", 0, |e| e.length = LANES_16),
-    ("32 lanes, mask of 0", 0, |e| e.mask = 1),
-    ("32 lanes, mask of 1", 1 << 9, |e| e.mask = 1),
-    ("32 lanes, mask of 4", 0x8001_0401, |e| e.mask = 1),
-    ("32 lanes, mask of 16", 0x9C5A_A563, |e| e.mask = 1),
-    ("32 lanes, mask of 32", u64::MAX, |e| e.mask = 1),
-    ("32 lanes, memory", 0, |e| (e.mode, e.rm, e.b) = (0, 3, 0)),
-    ("32 lanes, broadcast", 0, |e| {
+/// How the time goes with the lanes that are on, and with memory.
+const LANES_ON: [Kind; 9] = [
+    ("8 lanes", Lanes::Random, 0, |e| e.length = LANES_8),
+    ("16 lanes", Lanes::Random, 0, |e| e.length = LANES_16),
+    ("32 lanes, mask of 0", Lanes::Random, 0, |e| e.mask = 1),
+    ("32 lanes, mask of 1", Lanes::Random, 1 << 9, |e| e.mask = 1),
+    ("32 lanes, mask of 4", Lanes::Random, 0x8001_0401, |e| {
+        e.mask = 1;
+    }),
+    ("32 lanes, mask of 16", Lanes::Random, 0x9C5A_A563, |e| {
+        e.mask = 1;
+    }),
+    ("32 lanes, mask of 32", Lanes::Random, u64::MAX, |e| {
+        e.mask = 1;
+    }),
+    ("32 lanes, memory", Lanes::Random, 0, |e| {
+        (e.mode, e.rm, e.b) = (0, 3, 0);
+    }),
+    ("32 lanes, broadcast", Lanes::Random, 0, |e| {
         (e.mode, e.rm, e.b, e.extra, e.length) = (0, 3, 0, 1, LANES_32);
     }),
 ];
@@ -120,11 +163,13 @@ pub fn rows(rounds: usize) -> Vec<Row> {
     let calls = STEPS.div_ceil(rounds);
     let mut rows = Vec::new();
     for listed in &LIST {
-        rows.push(row(listed, "32 lanes", calls, 0, |_| ()));
+        let is_root = listed.operands.len() == 1;
+        rows.push(row(listed, RANDOM, calls));
+        rows.push(row(listed, if is_root { TAME_ROOT } else { TAME }, calls));
     }
     let multiply = &LIST[1];
-    for (kind, mask, change) in LANES_ON {
-        rows.push(row(multiply, kind, calls, mask, change));
+    for kind in LANES_ON {
+        rows.push(row(multiply, kind, calls));
     }
     rows
 }

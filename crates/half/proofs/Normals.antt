@@ -1,5 +1,5 @@
 -- Normal operands, those of the short way: finite, not zero, and no DE.
-use Prim.Native.Nat.{ℕ, _+_, _-_, _*_, _/_, _%_, _^_, _≤_, _<_}
+use Prim.Native.Nat.{ℕ, _+_, _*_, _/_, _%_, _^_, _≤_, _<_}
 use mathlib.Core.Bool.{Bool, true, false, not, _&&_}
 use mathlib.Core.Path.{_≡_, refl, sym, ap, _∙_}
 use native.Mathlib.Omega.{arith}
@@ -64,7 +64,7 @@ module _ (h : ℕ) (n : isNormal h ≡ true) where
   no-denormal : isSubnormal h ≡ false
   no-denormal = rw not-least
 
-  pub normal-zero : isZero h ≡ false
+  normal-zero : isZero h ≡ false
   normal-zero = rw not-least
 
   -- its magnitude in units of 2 ^ -25, by its exponent field
@@ -89,7 +89,7 @@ module _ (mode : Mode) (unmasked : Bool) (a b : ℕ) (na : isNormal a ≡ true) 
   pub normal-add : halfAdd mode unmasked a b ≡ exactSum mode unmasked (negative a) (units a) (negative b) (units b) (2 ^ 24)
   normal-add = finite-add mode unmasked a b (rw (normal-finite a na, normal-finite b nb)) ∙ rw (no-denormal a na, no-denormal b nb) (plain (exactSum mode unmasked (negative a) (units a) (negative b) (units b) (2 ^ 24)))
 
-  pub normal-multiply : halfMultiply mode unmasked a b ≡ roundedHalf mode unmasked (unlike a b) (fraction (units a * units b) (2 ^ 48))
+  normal-multiply : halfMultiply mode unmasked a b ≡ roundedHalf mode unmasked (unlike a b) (fraction (units a * units b) (2 ^ 48))
   normal-multiply = finite-multiply mode unmasked a b (rw (normal-finite a na, normal-finite b nb)) ∙ rw (no-denormal a na, no-denormal b nb) (plain (roundedHalf mode unmasked (unlike a b) (fraction (units a * units b) (2 ^ 48))))
 
   pub normal-divide : halfDivide mode unmasked a b ≡ roundedHalf mode unmasked (unlike a b) (fraction (units a) (units b))

@@ -7,10 +7,9 @@ use native.Mathlib.Nat.{mul-assoc, mul-le-mul, mod-eq-of-lt}
 use lib.Pow.{pow-pos, pow-add, pow-mono}
 use lib.Ieee.{size}
 use lib.Ieee.Digits.{size-le}
-use Rattle.half.specs.Format.{exponentField, significand, isFinite, isZero, negative, units}
+use Rattle.half.specs.Format.{exponentField, significand, isFinite, isZero, units}
 use Rattle.half.specs.Exact.{fraction, rootOf, against}
 use Rattle.half.specs.Round.{roundedHalf}
-use Rattle.half.specs.Operations.{halfRoot}
 use Rattle.half.specs.Work.{place, rootPlace, isNormal}
 use Rattle.half.specs.declared.Mode.{Mode}
 use Rattle.half.specs.declared.Outcome.{Outcome}
@@ -19,7 +18,7 @@ use Rattle.half.proofs.Roots.{root-cut, root-place-cut, root-large, roo
 use Rattle.half.proofs.Units.{lift, finite-lt, units-pos}
 use Rattle.half.proofs.Bridge.{Placed}
 use Rattle.half.proofs.Digits.{digits, sticky-wide}
-use Rattle.half.proofs.Normals.{normal-ge, normal-lt, normal-finite, normal-root}
+use Rattle.half.proofs.Normals.{normal-ge, normal-finite}
 
 root-placed : (n : ℕ) → n < 2 ^ 40 → Placed (rootOf n (2 ^ 24)) (rootPlace 34 (n * 2 ^ 28))
 unfolding against

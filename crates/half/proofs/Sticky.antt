@@ -1,27 +1,23 @@
 -- Rounding turns on the place among the multiples of 2 ^ -26 alone: what lies below may be joined to one bit. What the operations' proofs cite.
-use Prim.Native.Nat.{ℕ, suc, _+_, _-_, _*_, _/_, _%_, _^_, _≤_, _<_, compare}
+use Prim.Native.Nat.{ℕ, _+_, _-_, _*_, _/_, _^_, _≤_, _<_}
 use mathlib.Core.Bool.{Bool, true, false}
 use mathlib.Core.Path.{_≡_, refl, sym, ap, _∙_, subst}
 use native.Mathlib.Omega.{arith}
-use native.Mathlib.Nat.{add-mul, mul-assoc, mul-pos, mul-comm, mul-right-comm, mul-sub, mul-le-mul-right, mul-lt-mul-of-pos-right, lt-of-not-le, not-le-of-lt, lt-of-lt-of-le, le-trans, le-of-eq, le-of-suc-le-suc, le-div-iff-mul-le, pow-succ', mod-eq-of-lt}
+use native.Mathlib.Nat.{add-mul, mul-pos, mul-comm, mul-right-comm, mul-sub, mul-le-mul-right, mul-lt-mul-of-pos-right, le-div-iff-mul-le}
 use lib.Bits.{bitOr}
 use lib.Dec.{ltb}
-use lib.Pow.{pow-pos, pow-add, shl-exact}
+use lib.Pow.{pow-pos, pow-add}
 use lib.Ieee.{size}
-use lib.Ieee.Digits.{size-lt, size-le, size-reaches}
 use borrow.Author.Tests.{lt-ltb, le-ltb, le-leb, ltb-true, ltb-false}
-use Rattle.half.specs.Format.{isFinite, isZero, units, withSign}
-use Rattle.half.specs.Exact.{Magnitude, fraction, rootOf, denominator, against}
+use Rattle.half.specs.Format.{withSign}
+use Rattle.half.specs.Exact.{Magnitude, fraction, denominator, against}
 use Rattle.half.specs.Round.{OE, PE, result, overflowFields, roundedHalf}
 use Rattle.half.specs.Operations.{exactSum}
-use Rattle.half.specs.Work.{place, rootPlace}
+use Rattle.half.specs.Work.{place}
 use Rattle.half.specs.declared.Mode.{Mode}
 use Rattle.half.specs.declared.Outcome.{Outcome}
-use Rattle.half.proofs.Compare.{and-false, cmp-scale}
-use Rattle.half.proofs.Places.{size-is, size-large, place-scale, place-place, place-two, place-ge, place-lt, place-cut}
-use Rattle.half.proofs.Roots.{root-cut, root-place-cut, root-large, root-place-lt, N-lt, N-ge, N-square}
-use Rattle.half.proofs.Units.{finite-lt, units-pos}
-use Rattle.half.proofs.Bridge.{steps, steps-ge, Placed, coarse, bridge}
+use Rattle.half.proofs.Places.{size-large, place-scale, place-two, place-ge, place-cut}
+use Rattle.half.proofs.Bridge.{steps, Placed, coarse, bridge}
 
 -- ---- places
 

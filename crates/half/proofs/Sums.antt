@@ -16,7 +16,7 @@ use Rattle.half.specs.Operations.{some, cancelled, withDenormals, unlike
 use Rattle.half.specs.Work.{place, isNormal, sumMagnitude, sumSign, Summed}
 use Rattle.half.specs.declared.Mode.{Mode}
 use Rattle.half.specs.declared.Outcome.{Outcome}
-use Rattle.half.specs.declared.sum.Sum.{Sum}
+use Rattle.half.specs.declared.normal.Sum.{Sum}
 use Rattle.half.proofs.Cases.{again}
 use Rattle.half.proofs.Normals.{normal-units, normal-add, normal-multiply-add, product-units}
 use Rattle.half.proofs.Sticky.{sticky-shift, less-scale, ltb-scale, sum-scale}
@@ -38,7 +38,7 @@ module _ (x y : ℕ) {l s : ℕ} (hl : l ≡ cond (ltb x y) y x) (hs : s ≡ con
   both = ordered (ltb x y) refl hl hs
 
 -- ---- the magnitude of a sum, where it is not 0, rounds as the sum does
-pub sum-rounded : (mode : Mode) (unmasked sx : Bool) (x : ℕ) (sy : Bool) (y d : ℕ) → 0 < sumMagnitude (Bool·beq sx sy) x y
+sum-rounded : (mode : Mode) (unmasked sx : Bool) (x : ℕ) (sy : Bool) (y d : ℕ) → 0 < sumMagnitude (Bool·beq sx sy) x y
     → roundedHalf mode unmasked (sumSign sx x sy y) (fraction (sumMagnitude (Bool·beq sx sy) x y) d) ≡ exactSum mode unmasked sx x sy y d
 unfolding exactSum
 sum-rounded mode unmasked sx x sy y d n = go (Bool·beq sx sy) (ltb x y) refl refl n

@@ -8,7 +8,7 @@ use lib.IntN.{ℤ, subℕ}
 use Rattle.half.specs.Format.{exponentField, units}
 use Rattle.half.specs.Exact.{rootFrom}
 use Rattle.half.specs.declared.product.Product.{Product}
-use Rattle.half.specs.declared.sum.Sum.{Sum}
+use Rattle.half.specs.declared.normal.Sum.{Sum}
 
 -- 1 where something is left, else 0
 abbrev pub more : ℕ → ℕ

@@ -74,7 +74,8 @@ fn any_fused(mode: Mode, unmasked: bool, a: u16, b: u16, c: u16) -> Outcome
     operands::with_flags(operands::denormal_flag(a, b, c), o)
 }
 
-fn normal_fused(a: u16, b: u16, c: u16) -> sum::Sum
+// a * b and c added.
+fn normal_fused(a: u16, b: u16, c: u16) -> normal::Sum
     requires { ⌜ (isNormal a ≡ true) × (isNormal b ≡ true) × (isNormal c ≡ true) ⌝ }
     ensures { λ r. ⌜ Summed (unlike a b) (units a * units b * 2 ^ 9) (negative c) (units c * 2 ^ 33) r ⌝ }
 {

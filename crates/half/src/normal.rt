@@ -1,5 +1,6 @@
 // The short way of normal operands, whose exponent fields are 1 to 30: no zero, no subnormal, nothing special. Digits and exponent stay
-// apart: a magnitude is m * 2^e, in units of 2^-57, which are fine enough for a product.
+// apart: a magnitude is m * 2^e in units of 2^-57, so small that no exponent goes below 0. An operation tests its operands one by one and
+// calls what serves any operands at each test: the back end puts a function that is called once into its caller, however large.
 ghost use mathlib.Core.Path.{_≡_};
 ghost use Prim.Native.Nat.{_<_, _≤_, _+_, _*_, _^_};
 ghost use mathlib.Core.Bool.{Bool, true};
@@ -14,7 +15,14 @@ use super::fields;
 use super::operands;
 use super::rounding;
 
-// Of the exponent fields raised by one, 0 to 32, only those of 0 and 31 have no digit set in the four above the lowest.
+// An exact sum: its sign and its magnitude, digits * 2^exponent.
+pub struct Sum {
+    pub neg: bool,
+    pub digits: u64,
+    pub exponent: u32,
+}
+
+// With one added to the exponent field, the four bits above its lowest are 0 for 0 and 31 alone.
 pub fn is_normal(h: u16) -> bool
     ensures { λ r. ⌜ r ≡ isNormal h ⌝ }
 {
@@ -54,7 +62,7 @@ pub fn product_of(a: u16, b: u16) -> u64
 // z * 2^k / 2^26 rounded, for a z of 13 digits, the last of which says whether something is left below (specs/Work.antt, place). The half
 // is normal, or too large, so that nothing turns on the mask of UE.
 pub fn packed(mode: Mode, neg: bool, z: u64, k: u32) -> Outcome
-    requires { ⌜ (2 ^ 12 ≤ z) × (z < 2 ^ 13) × (k < 100) ⌝ }
+    requires { ⌜ (2 ^ 12 ≤ z) × (z < 2 ^ 13) × (k < 128) ⌝ }
     ensures { λ r. ⌜ ((unmasked : Bool) → r ≡ roundedHalf mode unmasked neg (fraction (z * 2 ^ k) (2 ^ 26))) ⌝ }
 {
     let q = rounding::whole_steps(mode, neg, z);

@@ -1,6 +1,6 @@
 // Multiplication.
 ghost use mathlib.Core.Path.{_≡_};
-ghost use Prim.Native.Nat.{_<_, _≤_, _+_, _-_, _*_, _^_};
+ghost use Prim.Native.Nat.{_<_, _+_, _-_, _*_, _^_};
 ghost use mathlib.Core.Bool.{Bool, true, false, _&&_, _||_};
 ghost use lib.IntN.{subℕ};
 ghost use Rattle.half.specs.Format.{isFinite, isInfinite, isZero, units, exponentField};
@@ -93,7 +93,7 @@ fn any_product(mode: Mode, unmasked: bool, a: u16, b: u16) -> Outcome
     operands::with_flags(operands::denormal_flag(a, b, b), o)
 }
 
-// Two significands have 20 digits behind the first at least, so that the product is large where the exponents make 23.
+// The product of two significands has 21 digits or 22: from the exponent 23 on it is large.
 fn normal_product(mode: Mode, unmasked: bool, a: u16, b: u16) -> Outcome
     requires { ⌜ (isNormal a ≡ true) × (isNormal b ≡ true) ⌝ }
     ensures { λ r. ⌜ r ≡ halfMultiply mode unmasked a b ⌝ }
@@ -107,7 +107,6 @@ fn normal_product(mode: Mode, unmasked: bool, a: u16, b: u16) -> Outcome
     normal::round_large(mode, neg, m, e)
 }
 
-// The two calls keep any_product out of the short way's code: a function that is called once is put into its caller.
 pub fn multiply(mode: Mode, unmasked: bool, a: u16, b: u16) -> Outcome
     ensures { λ r. ⌜ r ≡ halfMultiply mode unmasked a b ⌝ }
 {

@@ -91,7 +91,7 @@ fn any_quotient(mode: Mode, unmasked: bool, a: u16, b: u16) -> Outcome
     operands::with_flags(operands::denormal_flag(a, b, b), o)
 }
 
-// The place of a quotient of significands times 2^21 has 22 digits or 23, so that the quotient is large from the exponent 22 on.
+// The place of the quotient of two significands, times 2^21, has 22 digits or 23: from the exponent 22 on the quotient is large.
 fn normal_quotient(mode: Mode, unmasked: bool, a: u16, b: u16) -> Outcome
     requires { ⌜ (isNormal a ≡ true) × (isNormal b ≡ true) ⌝ }
     ensures { λ r. ⌜ r ≡ halfDivide mode unmasked a b ⌝ }

@@ -1,7 +1,7 @@
 // Addition and subtraction.
 ghost use mathlib.Core.Path.{_≡_};
 ghost use Prim.Native.Nat.{_<_, _≤_, _+_, _*_, _^_, min};
-ghost use mathlib.Core.Bool.{Bool, true, false, _&&_, cond, Bool·beq};
+ghost use mathlib.Core.Bool.{Bool, true, false, _&&_, cond};
 ghost use lib.Dec.{ltb};
 ghost use Rattle.half.specs.Format.{isFinite, isNan, negative, negated, units, withSign};
 ghost use Rattle.half.specs.Work.{place, isNormal, sumMagnitude, sumSign, Summed};
@@ -12,13 +12,6 @@ use super::fields;
 use super::normal;
 use super::operands;
 use super::rounding;
-
-// A sum's sign and its magnitude, digits * 2^exponent in units of 2^-57.
-pub struct Sum {
-    pub neg: bool,
-    pub digits: u64,
-    pub exponent: u32,
-}
 
 // The zero that a sum of unlike signs gives.
 fn cancelled_zero(mode: Mode) -> u16
@@ -142,7 +135,7 @@ fn any_sum(mode: Mode, unmasked: bool, a: u16, b: u16) -> Outcome
 }
 
 // Two normal halves have their digits in 64 bits, at one exponent.
-fn normal_sum(a: u16, b: u16) -> Sum
+fn normal_sum(a: u16, b: u16) -> normal::Sum
     requires { ⌜ (isNormal a ≡ true) × (isNormal b ≡ true) ⌝ }
     ensures { λ r. ⌜ Summed (negative a) (units a * 2 ^ 33) (negative b) (units b * 2 ^ 33) r ⌝ }
 {
@@ -150,7 +143,7 @@ fn normal_sum(a: u16, b: u16) -> Sum
     let y = normal::magnitude(b);
     let sx = fields::sign_of(a);
     let sy = fields::sign_of(b);
-    Sum {
+    normal::Sum {
         neg: sign_of_larger(sx, x, sy, y),
         digits: total(sx == sy, x, y),
         exponent: 32,
@@ -164,14 +157,14 @@ fn lower(i: u32, j: u32) -> u32
 }
 
 // ±x * 2^i and ±y * 2^j added, a product and an addend: at the lower one of the exponents their digits have room in 64 bits.
-pub(crate) fn shifted_sum(sx: bool, x: u64, i: u32, sy: bool, y: u64, j: u32) -> Sum
+pub(crate) fn shifted_sum(sx: bool, x: u64, i: u32, sy: bool, y: u64, j: u32) -> normal::Sum
     requires { ⌜ (x < 2 ^ 22) × (y < 2 ^ 11) × (9 ≤ i) × (i ≤ 67) × (33 ≤ j) × (j ≤ 62) ⌝ }
     ensures { λ r. ⌜ Summed sx (x * 2 ^ i) sy (y * 2 ^ j) r ⌝ }
 {
     let low = lower(i, j);
     let xs = x << (i - low);
     let ys = y << (j - low);
-    Sum {
+    normal::Sum {
         neg: sign_of_larger(sx, xs, sy, ys),
         digits: total(sx == sy, xs, ys),
         exponent: low,
