@@ -130,8 +130,8 @@ down n zero h = absurd (let z : n < 0 * 0 = h in omega arith)
 down n (suc s) h = let e : suc s - 1 + 1 ≡ suc s = omega arith in (omega arith, rw e h)
 
 -- the root, found from above
-pub root-found : (n s : ℕ) → n < 2 ^ 26 → n < (s + 1) * (s + 1) → s * s ≤ n → s ≡ rootFrom 13 n 0
-root-found n s h hi lo = root-one n s (rootFrom 13 n 0) (lo, hi) (root-of 13 n (omega arith))
+pub root-found : (n s : ℕ) → n < 2 ^ 24 → n < (s + 1) * (s + 1) → s * s ≤ n → s ≡ rootFrom 12 n 0
+root-found n s h hi lo = root-one n s (rootFrom 12 n 0) (lo, hi) (root-of 12 n (omega arith))
 
 module _ (k n s : ℕ) (h : s ≡ rootFrom k n 0) where
   pub root-even : s * s ≡ n → s * 2 ≡ rootPlace k n
@@ -179,19 +179,19 @@ root-cut k N c h = go (compare N (c * c)) (cmp N (c * c))
             let m : 0 < N - rootFrom k N 0 * rootFrom k N 0 = omega arith in omega arith
         inner false f s = let u : c < rootFrom k N 0 = leb-false _ _ f in omega arith
 
--- the root of a number of 25 digits or more has 13
-pub root-large : (k n : ℕ) → 2 ^ 24 ≤ n → n < 2 ^ k * 2 ^ k → 2 ^ 13 ≤ rootPlace k n
+-- the root of a number of 23 digits or more has 12
+pub root-large : (k n : ℕ) → 2 ^ 22 ≤ n → n < 2 ^ k * 2 ^ k → 2 ^ 12 ≤ rootPlace k n
 unfolding rootPlace
 root-large k n h b =
     let r : ℕ = rootFrom k n 0 in
-    let l : 2 ^ 12 ≤ r = le-of-suc-le-suc (lt-of-not-le (λ (g : suc r ≤ 2 ^ 12).
-    not-le-of-lt (lt-of-lt-of-le (root-of k n b .1) (mul-le-mul {n₁ = r + 1} {m₁ = r + 1} {n₂ = 2 ^ 12} {m₂ = 2 ^ 12} (omega arith) (omega arith))) h)) in
+    let l : 2 ^ 11 ≤ r = le-of-suc-le-suc (lt-of-not-le (λ (g : suc r ≤ 2 ^ 11).
+    not-le-of-lt (lt-of-lt-of-le (root-of k n b .1) (mul-le-mul {n₁ = r + 1} {m₁ = r + 1} {n₂ = 2 ^ 11} {m₂ = 2 ^ 11} (omega arith) (omega arith))) h)) in
     omega arith
 
--- ---- x brought to an N of 25 or 26 digits, of which 2 * j are dropped from x * 2 ^ 24
+-- ---- x brought to an N of 23 or 24 digits, of which 2 * j are dropped from x * 2 ^ 22
 module _ (a x j : ℕ) (hx : x ≡ units a) (pos : 0 < x) (hj : j ≡ (size x - 1) / 2) where
   abbrev N : ℕ
-  N = x * 2 ^ 24 / 2 ^ (2 * j)
+  N = x * 2 ^ 22 / 2 ^ (2 * j)
 
   some-digits : 0 < size x
   some-digits = size-large x 0 (omega arith)
@@ -203,26 +203,26 @@ module _ (a x j : ℕ) (hx : x ≡ units a) (pos : 0 < x) (hj : j ≡ (size x - 
   low = lt-of-lt-of-le (size-lt x) (le-trans (pow-mono {i = size x} {j = 2 * j + 2} (omega (arith, some-digits))) (le-of-eq (pow-add 2 (2 * j) 2)))
 
   -- what is dropped is zeros: x is a significand of 11 digits, shifted
-  digits : 2 * j ≤ lift a + 24
+  digits : 2 * j ≤ lift a + 22
   unfolding units
   digits =
       let l : x < 2 ^ (11 + lift a) = rw hx (shl-lt {a = significand a} 11 (lift a) (significand-lt a)) in
       let s : size x ≤ 11 + lift a = size-le x (11 + lift a) l in omega (arith, some-digits)
 
-  pub nothing-lost : N * 2 ^ (2 * j) ≡ x * 2 ^ 24
+  pub nothing-lost : N * 2 ^ (2 * j) ≡ x * 2 ^ 22
   unfolding units
   nothing-lost =
-      let w : 2 ^ lift a * 2 ^ 24 ≡ 2 ^ (lift a + 24 - 2 * j) * 2 ^ (2 * j) = sym (pow-add 2 (lift a) 24) ∙ ap (λ (n : ℕ). 2 ^ n) (let f : lift a + 24 ≡ lift a + 24 - 2 * j + 2 * j = omega (arith, digits) in f) ∙ pow-add 2 (lift a + 24 - 2 * j) (2 * j) in
-      let e : x * 2 ^ 24 ≡ significand a * 2 ^ (lift a + 24 - 2 * j) * 2 ^ (2 * j) = ap (λ (n : ℕ). n * 2 ^ 24) hx ∙ mul-assoc (significand a) (2 ^ lift a) (2 ^ 24) ∙ ap (λ (n : ℕ). significand a * n) w ∙ sym (mul-assoc (significand a) (2 ^ (lift a + 24 - 2 * j)) (2 ^ (2 * j))) in
-      rw e (ap (λ (n : ℕ). n * 2 ^ (2 * j)) (mul-div-cancel (significand a * 2 ^ (lift a + 24 - 2 * j)) (pow-pos (2 * j))))
+      let w : 2 ^ lift a * 2 ^ 22 ≡ 2 ^ (lift a + 22 - 2 * j) * 2 ^ (2 * j) = sym (pow-add 2 (lift a) 22) ∙ ap (λ (n : ℕ). 2 ^ n) (let f : lift a + 22 ≡ lift a + 22 - 2 * j + 2 * j = omega (arith, digits) in f) ∙ pow-add 2 (lift a + 22 - 2 * j) (2 * j) in
+      let e : x * 2 ^ 22 ≡ significand a * 2 ^ (lift a + 22 - 2 * j) * 2 ^ (2 * j) = ap (λ (n : ℕ). n * 2 ^ 22) hx ∙ mul-assoc (significand a) (2 ^ lift a) (2 ^ 22) ∙ ap (λ (n : ℕ). significand a * n) w ∙ sym (mul-assoc (significand a) (2 ^ (lift a + 22 - 2 * j)) (2 ^ (2 * j))) in
+      rw e (ap (λ (n : ℕ). n * 2 ^ (2 * j)) (mul-div-cancel (significand a * 2 ^ (lift a + 22 - 2 * j)) (pow-pos (2 * j))))
 
-  pub N-ge : 2 ^ 24 ≤ N
+  pub N-ge : 2 ^ 22 ≤ N
   N-ge = le-div-iff-mul-le (pow-pos (2 * j)) .1 (omega (arith, high))
 
-  pub N-lt : N < 2 ^ 26
+  pub N-lt : N < 2 ^ 24
   N-lt = div-lt-iff-lt-mul (pow-pos (2 * j)) .1 (omega (arith, low))
 
-  pub N-square : x * 2 ^ 28 ≡ N * (2 ^ (j + 2) * 2 ^ (j + 2))
+  pub N-square : x * 2 ^ 28 ≡ N * (2 ^ (j + 3) * 2 ^ (j + 3))
   N-square =
-      let e : 2 ^ (j + 2) * 2 ^ (j + 2) ≡ 2 ^ (2 * j) * 16 = sym (pow-add 2 (j + 2) (j + 2)) ∙ ap (λ (n : ℕ). 2 ^ n) (let f : j + 2 + (j + 2) ≡ 2 * j + 4 = omega arith in f) ∙ pow-add 2 (2 * j) 4 in
-      sym (ap (λ (n : ℕ). N * n) e ∙ sym (mul-assoc N (2 ^ (2 * j)) 16) ∙ ap (λ (n : ℕ). n * 16) nothing-lost ∙ (let f : x * 2 ^ 24 * 16 ≡ x * 2 ^ 28 = omega arith in f))
+      let e : 2 ^ (j + 3) * 2 ^ (j + 3) ≡ 2 ^ (2 * j) * 64 = sym (pow-add 2 (j + 3) (j + 3)) ∙ ap (λ (n : ℕ). 2 ^ n) (let f : j + 3 + (j + 3) ≡ 2 * j + 6 = omega arith in f) ∙ pow-add 2 (2 * j) 6 in
+      sym (ap (λ (n : ℕ). N * n) e ∙ sym (mul-assoc N (2 ^ (2 * j)) 64) ∙ ap (λ (n : ℕ). n * 64) nothing-lost ∙ (let f : x * 2 ^ 22 * 64 ≡ x * 2 ^ 28 = omega arith in f))

@@ -13,34 +13,33 @@ use super::Outcome;
 use super::fields;
 use super::normal;
 use super::operands;
-use super::rounding;
 
 fn start(long: bool) -> u64
-    ensures { λ r. ⌜ (0 < r) × (r < 2 ^ 12) ⌝ }
+    ensures { λ r. ⌜ (0 < r) × (r < 2 ^ 11) ⌝ }
 {
-    if long { 3445 } else { 2435 }
+    if long { 1722 } else { 1217 }
 }
 
 fn rise(long: bool, n: u64) -> u64
-    requires { ⌜ n < 2 ^ 26 ⌝ }
-    ensures { λ r. ⌜ r < 2 ^ 38 ⌝ }
+    requires { ⌜ n < 2 ^ 24 ⌝ }
+    ensures { λ r. ⌜ r < 2 ^ 36 ⌝ }
 {
     if long { n * 2399 } else { n * 3394 }
 }
 
-// Near the root of n, for an n of 25 or 26 digits: on a line for each. That it is above 0 is all that is relied on.
+// Near the root of n, for an n of 23 or 24 digits: on a line for each. That it is above 0 is all that is relied on.
 fn guess(n: u64) -> u64
-    requires { ⌜ n < 2 ^ 26 ⌝ }
-    ensures { λ r. ⌜ (0 < r) × (r < 2 ^ 14) ⌝ }
+    requires { ⌜ n < 2 ^ 24 ⌝ }
+    ensures { λ r. ⌜ (0 < r) × (r < 2 ^ 13) ⌝ }
 {
-    let long = 0x200_0000 <= n;
-    start(long) + rise(long, n) / 0x200_0000
+    let long = 0x80_0000 <= n;
+    start(long) + rise(long, n) / 0x100_0000
 }
 
 // s, or the number before it where the square of s is above n.
 fn one_down(n: u64, s: u64) -> u64
-    requires { ⌜ (s < 2 ^ 27) × (n < (s + 1) * (s + 1)) ⌝ }
-    ensures { λ r. ⌜ (r < 2 ^ 27) × (n < (r + 1) * (r + 1)) ⌝ }
+    requires { ⌜ (s < 2 ^ 25) × (n < (s + 1) * (s + 1)) ⌝ }
+    ensures { λ r. ⌜ (r < 2 ^ 25) × (n < (r + 1) * (r + 1)) ⌝ }
 {
     if n < s * s { s - 1 } else { s }
 }
@@ -48,8 +47,8 @@ fn one_down(n: u64, s: u64) -> u64
 // The largest number whose square is at most n. The mean of g and n / g is not below it, whatever g is, and close to it where g is:
 // one_down finds it, with no branch to foresee, and the loop is there for an n that a guess is far from.
 fn integer_root(n: u64) -> u64
-    requires { ⌜ n < 2 ^ 26 ⌝ }
-    ensures { λ r. ⌜ r ≡ rootFrom 13 n 0 ⌝ }
+    requires { ⌜ n < 2 ^ 24 ⌝ }
+    ensures { λ r. ⌜ r ≡ rootFrom 12 n 0 ⌝ }
 {
     let g = guess(n);
     let mut s = one_down(n, (g + n / g) / 2);
@@ -61,8 +60,8 @@ fn integer_root(n: u64) -> u64
 
 // The place of the root of n.
 fn root_place(n: u64) -> u64
-    requires { ⌜ n < 2 ^ 26 ⌝ }
-    ensures { λ r. ⌜ r ≡ rootPlace 13 n ⌝ }
+    requires { ⌜ n < 2 ^ 24 ⌝ }
+    ensures { λ r. ⌜ r ≡ rootPlace 12 n ⌝ }
 {
     let s = integer_root(n);
     if s * s == n { s * 2 } else { s * 2 + 1 }
@@ -76,16 +75,16 @@ fn half_exponent(x: u64) -> u32
     (63 - u64::leading_zeros(x)) / 2
 }
 
-// The root of a finite half above 0. Its magnitude is brought to 25 or 26 digits, so that 13 digits of the root and a bit for
-// the rest are enough. No root is tiny.
+// The root of a finite half above 0. Its magnitude is brought to 23 or 24 digits, so that the root has 12, and 13 with a bit for the
+// rest. No root is tiny.
 fn finite_root(mode: Mode, a: u16) -> Outcome
     requires { ⌜ (isFinite a ≡ true) × (isZero a ≡ false) ⌝ }
     ensures { λ r. ⌜ ((unmasked : Bool) → r ≡ roundedHalf mode unmasked false (rootOf (units a) (2 ^ 24))) ⌝ }
 {
     let x = fields::magnitude(a);
     let j = half_exponent(x);
-    let t = root_place((x << 24) >> (2 * j));
-    normal::packed(mode, false, rounding::place_of(t, 2), j + 2)
+    let z = root_place((x << 22) >> (2 * j));
+    normal::packed(mode, false, z, j + 2)
 }
 
 // The root of a NaN, an infinity, a zero or a negative number, which turns on no mode.
@@ -117,14 +116,14 @@ fn any_root(mode: Mode, a: u16) -> Outcome
     operands::with_flags(operands::denormal_flag(a, a, a), o)
 }
 
-// Of a normal half the exponent says how many digits the magnitude has.
+// Of a normal half the exponent says by how much the significand is to be raised.
 fn normal_root(mode: Mode, a: u16) -> Outcome
     requires { ⌜ (isNormal a ≡ true) × (negative a ≡ false) ⌝ }
     ensures { λ r. ⌜ ((unmasked : Bool) → r ≡ halfRoot mode unmasked a) ⌝ }
 {
     let e = normal::exponent_of(a);
-    let t = root_place(normal::significand_of(a) << (15 - e % 2));
-    normal::packed(mode, false, rounding::place_of(t, 2), (e + 13) / 2)
+    let z = root_place(normal::significand_of(a) << (13 - e % 2));
+    normal::packed(mode, false, z, (e + 13) / 2)
 }
 
 pub fn square_root(mode: Mode, unmasked: bool, a: u16) -> Outcome

@@ -23,17 +23,14 @@ shr-root-place c = omega (arith, exponent-le (c .before .before .args .a) (c .be
 root-place-requires : tie.Need-root-place-requires
 root-place-requires c κs = radicand-lt (c .before .before .args .a) (c .before .magnitude .result) (c .half-exponent .result) (c .before .magnitude .ensures) (c .before .before .pre .0) (c .before .before .pre .1) (c .half-exponent .ensures)
 
-place-of-requires : tie.Need-place-of-requires
-place-of-requires c κs = search needs
-
 add-packed : tie.Need-add-packed
-add-packed c = omega (arith, exponent-le (c .before .before .before .before .args .a) (c .before .before .before .magnitude .result) (c .before .before .half-exponent .result) (c .before .before .before .magnitude .ensures) (c .before .before .before .before .pre .0) (c .before .before .before .before .pre .1) (c .before .before .half-exponent .ensures))
+add-packed c = omega (arith, exponent-le (c .before .before .before .args .a) (c .before .before .magnitude .result) (c .before .half-exponent .result) (c .before .before .magnitude .ensures) (c .before .before .before .pre .0) (c .before .before .before .pre .1) (c .before .half-exponent .ensures))
 
 packed-requires : tie.Need-packed-requires
-packed-requires c κs = let r = root-digits (finite-radicand (c .before .before .before .before .args .a) (c .before .before .before .magnitude .result) (c .before .before .half-exponent .result) (c .before .before .before .magnitude .ensures) (c .before .before .before .before .pre .0) (c .before .before .before .before .pre .1) (c .before .before .half-exponent .ensures) (c .before .root-place .ensures) (c .place-of .ensures)) in (r .0, r .1, omega (arith, exponent-le (c .before .before .before .before .args .a) (c .before .before .before .magnitude .result) (c .before .before .half-exponent .result) (c .before .before .before .magnitude .ensures) (c .before .before .before .before .pre .0) (c .before .before .before .before .pre .1) (c .before .before .half-exponent .ensures)))
+packed-requires c κs = let r = root-digits (finite-radicand (c .before .before .before .args .a) (c .before .before .magnitude .result) (c .before .half-exponent .result) (c .before .before .magnitude .ensures) (c .before .before .before .pre .0) (c .before .before .before .pre .1) (c .before .half-exponent .ensures) (c .root-place .ensures)) in (r .0, r .1, omega (arith, exponent-le (c .before .before .before .args .a) (c .before .before .magnitude .result) (c .before .half-exponent .result) (c .before .before .magnitude .ensures) (c .before .before .before .pre .0) (c .before .before .before .pre .1) (c .before .half-exponent .ensures)))
 
 returns : tie.Need-returns
-returns c = root-rounds (finite-radicand (c .before .before .before .before .before .args .a) (c .before .before .before .before .magnitude .result) (c .before .before .before .half-exponent .result) (c .before .before .before .before .magnitude .ensures) (c .before .before .before .before .before .pre .0) (c .before .before .before .before .before .pre .1) (c .before .before .before .half-exponent .ensures) (c .before .before .root-place .ensures) (c .before .place-of .ensures)) _ _ (c .packed .ensures)
+returns c = root-rounds (finite-radicand (c .before .before .before .before .args .a) (c .before .before .before .magnitude .result) (c .before .before .half-exponent .result) (c .before .before .before .magnitude .ensures) (c .before .before .before .before .pre .0) (c .before .before .before .before .pre .1) (c .before .before .half-exponent .ensures) (c .before .root-place .ensures)) _ _ (c .packed .ensures)
 
 pub finite-root-spec : {M : Type 1} → statement M
 finite-root-spec =
@@ -45,7 +42,6 @@ finite-root-spec =
     cast-root-place
     shr-root-place
     root-place-requires
-    place-of-requires
     add-packed
     packed-requires
     returns)

@@ -8,7 +8,7 @@ use Rattle.half.proofs.root.integer_root.Statement.{statement}
 use Rattle.half.proofs.root.integer_root.Tie as tie
 
 abbrev Inv-loop : tie.InvT-loop
-Inv-loop n g s₀ s = (s < 2 ^ 27) × (n < (s + 1) * (s + 1))
+Inv-loop n g s₀ s = (s < 2 ^ 25) × (n < (s + 1) * (s + 1))
 
 abbrev μ-loop : tie.MeasureT-loop
 μ-loop n g s₀ s = s
@@ -29,7 +29,7 @@ loop-holds : tie.Need-loop-holds Inv-loop μ-loop
 loop-holds c = c .one-down .ensures
 
 mul-loop : tie.Need-mul-loop Inv-loop μ-loop
-mul-loop c = record { fits = lt-of-le-of-lt (mul-le-mul {n₁ = c .loop .s} {m₁ = c .loop .s} {n₂ = 2 ^ 27} {m₂ = 2 ^ 27} (omega arith) (omega arith)) (lit< tt) }
+mul-loop c = record { fits = lt-of-le-of-lt (mul-le-mul {n₁ = c .loop .s} {m₁ = c .loop .s} {n₂ = 2 ^ 25} {m₂ = 2 ^ 25} (omega arith) (omega arith)) (lit< tt) }
 
 sub-s : tie.Need-sub-s Inv-loop μ-loop
 sub-s c = omega (arith, down (c .before .before .before .before .args .n) (c .before .loop .s) (c .loop-test .taken) .0)

@@ -24,17 +24,14 @@ shl-root-place c = search needs
 root-place-requires : tie.Need-root-place-requires
 root-place-requires c κs = normal-radicand-lt (c .before .before .args .a) (c .before .before .pre .0) (c .significand-of .ensures) (c .before .exponent-of .ensures .0)
 
-place-of-requires : tie.Need-place-of-requires
-place-of-requires c κs = search needs
-
 add-packed : tie.Need-add-packed
 add-packed c = search needs
 
 packed-requires : tie.Need-packed-requires
-packed-requires c κs = let r = root-digits (normal-radicand (c .before .before .before .before .args .a) (c .before .before .before .before .pre .0) (c .before .before .significand-of .ensures) (c .before .before .before .exponent-of .ensures .0) (c .before .root-place .ensures) (c .place-of .ensures)) in (r .0, r .1, omega arith)
+packed-requires c κs = let r = root-digits (normal-radicand (c .before .before .before .args .a) (c .before .before .before .pre .0) (c .before .significand-of .ensures) (c .before .before .exponent-of .ensures .0) (c .root-place .ensures)) in (r .0, r .1, omega arith)
 
 returns : tie.Need-returns
-returns c = λ u. root-rounds (normal-radicand (c .before .before .before .before .before .args .a) (c .before .before .before .before .before .pre .0) (c .before .before .before .significand-of .ensures) (c .before .before .before .before .exponent-of .ensures .0) (c .before .before .root-place .ensures) (c .before .place-of .ensures)) _ _ (c .packed .ensures) u ∙ sym (normal-root _ u (c .before .before .before .before .before .args .a) (c .before .before .before .before .before .pre .0) (c .before .before .before .before .before .pre .1))
+returns c = λ u. root-rounds (normal-radicand (c .before .before .before .before .args .a) (c .before .before .before .before .pre .0) (c .before .before .significand-of .ensures) (c .before .before .before .exponent-of .ensures .0) (c .before .root-place .ensures)) _ _ (c .packed .ensures) u ∙ sym (normal-root _ u (c .before .before .before .before .args .a) (c .before .before .before .before .pre .0) (c .before .before .before .before .pre .1))
 
 pub normal-root-spec : {M : Type 1} → statement M
 normal-root-spec =
@@ -46,7 +43,6 @@ normal-root-spec =
     cast-root-place
     shl-root-place
     root-place-requires
-    place-of-requires
     add-packed
     packed-requires
     returns)
