@@ -118,7 +118,7 @@ fn random_fused_multiply_add() {
 /// What a case may reach: a name, and whether a case with this outcome does.
 type Border = (&'static str, fn(&Case, &Outcome) -> bool);
 
-const BORDERS: [Border; 10] = [
+const BORDERS: [Border; 12] = [
     ("IE", |_, outcome| outcome.flags & IE != 0),
     ("DE", |_, outcome| outcome.flags & DE != 0),
     ("ZE", |_, outcome| outcome.flags & ZE != 0),
@@ -141,18 +141,41 @@ const BORDERS: [Border; 10] = [
         let mut operands = case.used_operands().iter();
         zero && operands.all(|half| (1..0x7C00).contains(&(half & 0x7FFF)))
     }),
+    ("subnormal of normals", |case, outcome| {
+        are_normal(case) && (1..0x0400).contains(&(outcome.half & 0x7FFF))
+    }),
+    ("a far operand", |case, _| are_normal(case) && is_far(case)),
 ];
+
+fn are_normal(case: &Case) -> bool {
+    let mut operands = case.used_operands().iter();
+    operands.all(|half| (0x0400..0x7C00).contains(&(half & 0x7FFF)))
+}
+
+/// One part of a sum lies below all the digits of the other, and of the bit that rounds them.
+fn is_far(case: &Case) -> bool {
+    let [a, b, c] = case.operands.map(|half| i32::from(half >> 10 & 31));
+    match case.operation {
+        Operation::Add | Operation::Subtract => (a - b).abs() > 13,
+        Operation::FusedMultiplyAdd => (a + b - 15 - c).abs() > 13,
+        _ => false,
+    }
+}
 
 /// The borders that an operation cannot reach. A tiny sum is exact. A quotient of 11-bit numbers
 /// that is below a power of two is below it on 11 bits too. A root is neither tiny nor large, and
-/// its square would have 23 bits if it lay in a middle.
+/// its square would have 23 bits if it lay in a middle. Only sums have far operands.
 fn out_of_reach(operation: Operation) -> &'static [&'static str] {
     match operation {
         Operation::Add | Operation::Subtract => {
             &["ZE", "tiny, inexact", "tiny before rounding alone"]
         }
-        Operation::Multiply => &["ZE", "cancellation"],
-        Operation::Divide => &["tiny before rounding alone", "cancellation"],
+        Operation::Multiply => &["ZE", "cancellation", "a far operand"],
+        Operation::Divide => &[
+            "tiny before rounding alone",
+            "cancellation",
+            "a far operand",
+        ],
         Operation::SquareRoot => &[
             "ZE",
             "OE",
@@ -162,6 +185,8 @@ fn out_of_reach(operation: Operation) -> &'static [&'static str] {
             "largest, inexact",
             "a middle",
             "cancellation",
+            "subnormal of normals",
+            "a far operand",
         ],
         Operation::FusedMultiplyAdd => &["ZE"],
     }
