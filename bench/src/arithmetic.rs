@@ -1,7 +1,7 @@
 //! The rows of the arithmetic: each operation on random halves, on corners and on tame halves.
 
 use crate::{tame, time, Pass, Row};
-use ridgecrook_bench::plain;
+use ridgecrook_bench::plain::PLAIN;
 use ridgecrook_tests::case::{Case, Operation, Outcome};
 use ridgecrook_tests::random::Random;
 use ridgecrook_tests::{corners, library};
@@ -58,18 +58,19 @@ fn three(f: impl Fn(u16, u16, u16, u32, u32) -> Outcome + Copy + 'static) -> Imp
     })
 }
 
+/// The library's operations are called, so the plain ones are too, through pointers.
 fn operations() -> [(&'static str, [Implementation; 2]); 6] {
     use library as l;
-    use plain as p;
+    let p = black_box(PLAIN);
     [
-        ("add", [two(l::add), two(p::add)]),
-        ("subtract", [two(l::subtract), two(p::subtract)]),
-        ("multiply", [two(l::multiply), two(p::multiply)]),
-        ("divide", [two(l::divide), two(p::divide)]),
-        ("square_root", [one(l::square_root), one(p::square_root)]),
+        ("add", [two(l::add), two(p.add)]),
+        ("subtract", [two(l::subtract), two(p.subtract)]),
+        ("multiply", [two(l::multiply), two(p.multiply)]),
+        ("divide", [two(l::divide), two(p.divide)]),
+        ("square_root", [one(l::square_root), one(p.square_root)]),
         (
             "fused_multiply_add",
-            [three(l::fused_multiply_add), three(p::fused_multiply_add)],
+            [three(l::fused_multiply_add), three(p.fused_multiply_add)],
         ),
     ]
 }

@@ -1,8 +1,6 @@
 //! The half arithmetic with the same modes and six flags, unproved and written for speed: normal
 //! operands by integers, as a good engineer would write it without proofs; all others, and results
-//! that are zero or may be subnormal, through f64 (`plain_double`).
-//!
-//! A function stands by itself (`inline(never)`), since the library's is called too.
+//! that are zero or may be subnormal, through f64 (`plain_double`). A step has them inlined.
 
 use crate::plain_double as double;
 use ridgecrook_tests::case::{Arithmetic, Outcome, OE, PE, UE};
@@ -138,7 +136,7 @@ fn ratio(
     )
 }
 
-#[inline(never)]
+#[inline(always)]
 pub fn multiply(a: u16, b: u16, mode: u32, underflow_unmasked: u32) -> Outcome {
     if !are_normal(mode, &[a, b]) {
         return double::multiply(a, b, mode, underflow_unmasked);
@@ -149,7 +147,7 @@ pub fn multiply(a: u16, b: u16, mode: u32, underflow_unmasked: u32) -> Outcome {
     ratio(digits, 0, e, rounding, underflow_unmasked)
 }
 
-#[inline(never)]
+#[inline(always)]
 pub fn divide(a: u16, b: u16, mode: u32, underflow_unmasked: u32) -> Outcome {
     if !are_normal(mode, &[a, b]) {
         return double::divide(a, b, mode, underflow_unmasked);
@@ -180,7 +178,7 @@ fn sum(a: u16, b: u16, mode: u32) -> Option<Outcome> {
     Some(Rounding::of(mode, far & SIGN).packed(thirteen(digits << zeros), e + 20 - zeros))
 }
 
-#[inline(never)]
+#[inline(always)]
 pub fn add(a: u16, b: u16, mode: u32, underflow_unmasked: u32) -> Outcome {
     if are_normal(mode, &[a, b]) {
         if let Some(outcome) = sum(a, b, mode) {
@@ -190,7 +188,7 @@ pub fn add(a: u16, b: u16, mode: u32, underflow_unmasked: u32) -> Outcome {
     double::add(a, b, mode, underflow_unmasked)
 }
 
-#[inline(never)]
+#[inline(always)]
 pub fn subtract(a: u16, b: u16, mode: u32, underflow_unmasked: u32) -> Outcome {
     if are_normal(mode, &[a, b]) {
         if let Some(outcome) = sum(a, b ^ SIGN, mode) {
@@ -200,7 +198,7 @@ pub fn subtract(a: u16, b: u16, mode: u32, underflow_unmasked: u32) -> Outcome {
     double::subtract(a, b, mode, underflow_unmasked)
 }
 
-#[inline(never)]
+#[inline(always)]
 pub fn fused_multiply_add(a: u16, b: u16, c: u16, mode: u32, underflow_unmasked: u32) -> Outcome {
     if !are_normal(mode, &[a, b, c]) {
         return double::fused_multiply_add(a, b, c, mode, underflow_unmasked);
@@ -243,7 +241,7 @@ const fn roots() -> [u16; 2048] {
     table
 }
 
-#[inline(never)]
+#[inline(always)]
 pub fn square_root(a: u16, mode: u32, underflow_unmasked: u32) -> Outcome {
     if !are_normal(mode, &[a]) || a & SIGN != 0 {
         return double::square_root(a, mode, underflow_unmasked);

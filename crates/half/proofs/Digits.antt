@@ -24,7 +24,7 @@ use Rattle.half.proofs.Bridge.{steps, steps-ge, Placed, coarse, bridge}
 use Rattle.half.proofs.Sticky.{of-place, sticky-shift, sticky-fraction, rounded-scale}
 
 -- ---- z / 4 in steps of 2 ^ (k - 24), for a z of 13 digits: a normal half, or too large
-unfoldable pub kept : Mode → Bool → ℕ → ℕ → Outcome
+unfoldable kept : Mode → Bool → ℕ → ℕ → Outcome
 kept mode neg k z =
     cond (leb 31744 (k * 1024 + steps mode neg z)) (result (withSign neg (overflowFields mode neg)) (bitOr OE PE))
     (result (withSign neg (k * 1024 + steps mode neg z)) (flag PE (not (eqb (z % 4) 0))))
