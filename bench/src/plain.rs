@@ -99,16 +99,14 @@ fn are_normal(mode: u32, halves: &[u16]) -> bool {
     mode <= 3 && halves.iter().all(|&half| is_normal(half))
 }
 
-/// Below 2 to the -14: `digits` has its highest at bit 31, the exponent is below 0.
+/// Below 2 to the -14: the exponent is below 0. What leaves no digit is still more than nothing.
 #[inline(never)]
-fn small(digits: u32, exponent: i32, rounding: Rounding, underflow_unmasked: u32) -> Outcome {
-    let by = 20 + exponent.unsigned_abs();
-    let wide = u64::from(digits);
-    let kept = wide >> by;
-    let quarters = 2 * kept as u32 + u32::from(kept << by != wide);
+fn small(thirteen: u32, exponent: i32, rounding: Rounding, underflow_unmasked: u32) -> Outcome {
+    let by = exponent.unsigned_abs().min(15);
+    let kept = thirteen >> by;
+    let quarters = kept | u32::from(kept << by != thirteen);
     let flag = inexact(quarters);
-    let unlimited = rounding.whole((digits >> 20) * 2 + u32::from(digits << 12 != 0));
-    let is_tiny = exponent < -1 || unlimited < 2048;
+    let is_tiny = exponent < -1 || rounding.whole(thirteen) < 2048;
     let is_underflow = is_tiny && (underflow_unmasked != 0 || flag != 0);
     let underflow = if is_underflow { UE } else { 0 };
     rounding.done(rounding.whole(quarters), flag | underflow)
@@ -126,14 +124,12 @@ fn ratio(
 ) -> Outcome {
     let top = digits >> 21;
     let digits = digits << (11 - top) | rest;
+    let thirteen = (digits >> 20) * 2 + u32::from(digits << 12 != 0);
     let exponent = exponent + top as i32;
     if exponent < 0 {
-        return small(digits, exponent, rounding, underflow_unmasked);
+        return small(thirteen, exponent, rounding, underflow_unmasked);
     }
-    rounding.packed(
-        (digits >> 20) * 2 + u32::from(digits << 12 != 0),
-        exponent as u32,
-    )
+    rounding.packed(thirteen, exponent as u32)
 }
 
 #[inline(always)]

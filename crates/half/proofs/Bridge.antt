@@ -17,7 +17,7 @@ use Rattle.half.specs.Work.{place}
 use Rattle.half.specs.declared.Mode.{Mode}
 use Rattle.half.specs.declared.Outcome.{Outcome}
 use Rattle.half.proofs.Compare.{and-false, cmp-scale, same-le, same-lt, same-ge, same-below}
-use Rattle.half.proofs.Places.{size-is, size-shift, size-large, place-two, place-ge, place-lt, place-cut}
+use Rattle.half.proofs.Places.{pow-join, size-is, size-shift, size-large, place-two, place-ge, place-lt, place-cut}
 use Rattle.half.proofs.Cuts.{left, right, weight, against-is, against-scale, left-scale, weight-pos, right-mono, whole-spec, whole-is, whole-le, whole-ge, whole-scale, roundTo-scale, roundTo-same, roundTo-ge, roundTo-le, roundTo-exact, scale-lt, lt-scale, ge-scale}
 
 -- ---- the fields of q * 2 ^ k
@@ -344,7 +344,7 @@ module _ (x : Magnitude) (t : ℕ) (hd : 0 < denominator x) (p : Placed x t) (mo
             let f : free ≡ n * 2 ^ suc j = normal h ∙ ap (λ (y : ℕ). y * 2 ^ suc j) sig24 in
             let g : 65536 * 2 ^ (25 + j) ≡ 2 ^ 40 * 2 ^ suc j = omega (arith, pow-add 2 25 j) in
             let c : leb (2 ^ 40 * 2 ^ suc j) (n * 2 ^ suc j) ≡ leb (2 ^ 40) n = ap isLe (cmp-scale (2 ^ 40) n (2 ^ suc j) (pow-pos (suc j))) in
-            let d : n * 2 ^ 40 ≡ steps mode neg (place t (2 ^ (size t - 14 + 2))) * 2 ^ (k + 40) = mul-assoc (steps mode neg (place t (2 ^ (size t - 14 + 2)))) (2 ^ k) (2 ^ 40) ∙ ap (λ (y : ℕ). steps mode neg (place t (2 ^ (size t - 14 + 2))) * y) (sym (pow-add 2 k 40)) in
+            let d : n * 2 ^ 40 ≡ steps mode neg (place t (2 ^ (size t - 14 + 2))) * 2 ^ (k + 40) = pow-join (steps mode neg (place t (2 ^ (size t - 14 + 2)))) k 40 refl in
             let o : leb (2 ^ 40) n ≡ leb (2 ^ 80) (n * 2 ^ 40) = sym (ap isLe (cmp-scale (2 ^ 40) n (2 ^ 40) (omega arith))) in
             ap (λ (y : ℕ). leb (65536 * 2 ^ (25 + j)) y) f ∙ ap (λ (y : ℕ). leb y (n * 2 ^ suc j)) g ∙ c ∙ o ∙ ap (λ (y : ℕ). leb (2 ^ 80) y) d
             ∙ over-test k (steps mode neg (place t (2 ^ (size t - 14 + 2)))) (kept-ge h) kept-le

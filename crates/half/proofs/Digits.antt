@@ -4,14 +4,14 @@ use Prim.Native.Nat.{ℕ, suc, _+_, _-_, _*_, _/_, _%_, _^_, _≤_, _<_}
 use mathlib.Core.Bool.{Bool, true, false, not, _&&_, cond}
 use mathlib.Core.Path.{_≡_, refl, sym, ap, _∙_, subst}
 use native.Mathlib.Omega.{arith}
-use native.Mathlib.Nat.{mul-assoc, mul-comm, mul-pos, le-trans, le-of-eq, lt-of-lt-of-le, mul-le-mul-right, mul-lt-mul-of-pos-right, le-div-iff-mul-le, div-lt-iff-lt-mul, mod-eq-of-lt, pow-succ', zero-mul}
+use native.Mathlib.Nat.{mul-assoc, mul-comm, mul-pos, le-trans, le-of-eq, lt-of-lt-of-le, mul-le-mul-right, mul-lt-mul-of-pos-right, le-div-iff-mul-le, div-lt-iff-lt-mul, mod-eq-of-lt, pow-succ', zero-mul, pos-of-ne-zero}
 use lib.Bits.{bitOr, or-zero-r}
 use lib.Dec.{leb, ltb, eqb}
 use lib.Pow.{pow-pos, pow-add, pow-mono}
 use lib.Count.{leadingZeros}
 use lib.Ieee.{size}
 use lib.Ieee.Digits.{size-lt, size-reaches}
-use borrow.Author.Tests.{le-leb, lt-leb, le-ltb, leb-true, leb-false, eqb-true, eqb-false}
+use borrow.Author.Tests.{le-leb, lt-leb, le-ltb, leb-true, leb-false, eqb-true, eqb-false, not-true}
 use Rattle.half.specs.Format.{withSign}
 use Rattle.half.specs.Exact.{Magnitude, fraction, denominator}
 use Rattle.half.specs.Round.{OE, PE, flag, result, overflowFields, roundedHalf}
@@ -19,7 +19,8 @@ use Rattle.half.specs.Work.{place}
 use Rattle.half.specs.declared.Mode.{Mode}
 use Rattle.half.specs.declared.Outcome.{Outcome}
 use Rattle.half.proofs.Compare.{and-false}
-use Rattle.half.proofs.Places.{size-is, size-large, zeros-size, place-scale, place-place, place-two, place-ge, place-lt}
+use Rattle.half.proofs.Places.{pow-join, size-is, size-large, zeros-size, place-scale, place-place, place-two, place-ge, place-lt}
+use Rattle.half.proofs.Cases.{and-left, and-right}
 use Rattle.half.proofs.Bridge.{steps, steps-ge, Placed, coarse, bridge}
 use Rattle.half.proofs.Sticky.{of-place, sticky-shift, sticky-fraction, rounded-scale}
 
@@ -85,14 +86,10 @@ module _ (t k T : ℕ) (hk : 1 ≤ k) (e : t ≡ place T (2 * 2 ^ k)) (lo : 2 ^ 
 
 -- ---- the shared law: of a fraction N / D, scaled by a power of two, 13 digits or more of its place t may stand for it
 module _ (mode : Mode) (unmasked neg : Bool) (N D t : ℕ) (hd : 0 < D) (ht : t ≡ place N D) where
-  up : (n e : ℕ) → n * 2 ^ e * 2 ^ 26 ≡ n * 2 ^ (e + 26)
-  up n e = mul-assoc n (2 ^ e) (2 ^ 26) ∙ ap (λ (y : ℕ). n * y) (sym (pow-add 2 e 26))
-
   -- in units of 2 ^ -26 or more, a place of a place
   far : (e m j : ℕ) → m ≡ j + (e + 26) → place (N * 2 ^ e * 2 ^ 26) (D * 2 ^ m) ≡ place (t * 2 ^ e * 2 ^ 26) (2 * 2 ^ m)
   far e m j h =
-      let down : (d : ℕ) → d * 2 ^ m ≡ d * 2 ^ j * 2 ^ (e + 26) = λ (d : ℕ). ap (λ (y : ℕ). d * 2 ^ y) h ∙ ap (λ (y : ℕ). d * y) (pow-add 2 j (e + 26)) ∙ sym (mul-assoc d (2 ^ j) (2 ^ (e + 26))) in
-      rw (up N e, up t e, down D, down 2)
+      rw (pow-join N e 26 refl, pow-join t e 26 refl, sym (pow-join D j (e + 26) (sym h)), sym (pow-join 2 j (e + 26) (sym h)))
       (place-scale N (D * 2 ^ j) (2 ^ (e + 26)) (mul-pos hd (pow-pos j)) (pow-pos (e + 26))
       ∙ ap (λ (d : ℕ). place N d) (mul-comm D (2 ^ j))
       ∙ sym (place-place N D (2 ^ j) hd (pow-pos j))
@@ -117,7 +114,7 @@ module _ (mode : Mode) (unmasked neg : Bool) (N D t : ℕ) (hd : 0 < D) (ht : t 
           let l : m < e + 26 = leb-false _ _ f in
           let k : ℕ = e + 26 - m in
           let at : (n d : ℕ) → 0 < d → place (n * 2 ^ e * 2 ^ 26) (d * 2 ^ m) ≡ place (n * 2 ^ k) d = λ (n d : ℕ) (h : 0 < d).
-          ap (λ (y : ℕ). place y (d * 2 ^ m)) (up n e ∙ ap (λ (y : ℕ). n * y) (ap (λ (y : ℕ). 2 ^ y) (let g : e + 26 ≡ k + m = omega arith in g) ∙ pow-add 2 k m) ∙ sym (mul-assoc n (2 ^ k) (2 ^ m)))
+          ap (λ (y : ℕ). place y (d * 2 ^ m)) (pow-join n e 26 refl ∙ sym (pow-join n k m (let g : k + m ≡ e + 26 = omega arith in g)))
           ∙ place-scale (n * 2 ^ k) d (2 ^ m) h (pow-pos m) in
           sticky-fraction mode unmasked neg (N * 2 ^ e) (D * 2 ^ m) (mul-pos hd (pow-pos m))
           ∙ ap (λ (n : ℕ). roundedHalf mode unmasked neg (fraction n (2 ^ 27))) (at N D hd)
@@ -131,11 +128,10 @@ module _ (mode : Mode) (unmasked neg : Bool) (N D t : ℕ) (hd : 0 < D) (ht : t 
 module _ (mode : Mode) (neg : Bool) (z k : ℕ) (lo : 2 ^ 12 ≤ z) (hi : z < 2 ^ 13) {q : ℕ} (hq : q ≡ steps mode neg z) where
   rounds : (unmasked : Bool) → roundedHalf mode unmasked neg (fraction (z * 2 ^ k) (2 ^ 26)) ≡ kept mode neg k z
   rounds unmasked =
-      let n : z * 2 ^ k * 2 ≡ z * 2 ^ (k + 1) = mul-assoc z (2 ^ k) 2 ∙ ap (λ (m : ℕ). z * m) (sym (pow-add 2 k 1)) in
       let u : 2 ^ (k + 2) ≡ 2 * 2 ^ (k + 1) = omega (arith, pow-add 2 k 2, pow-add 2 k 1) in
       let p : place (z * 2 ^ (k + 1)) (2 ^ (k + 2)) ≡ z = ap (λ (d : ℕ). place (z * 2 ^ (k + 1)) d) u ∙ place-scale z 2 (2 ^ (k + 1)) (omega arith) (pow-pos (k + 1)) ∙ place-two z in
       sym (rounded-scale mode unmasked neg (z * 2 ^ k) (2 ^ 26) 2 (omega arith) (omega arith))
-      ∙ ap (λ (m : ℕ). roundedHalf mode unmasked neg (fraction m (2 ^ 27))) n
+      ∙ ap (λ (m : ℕ). roundedHalf mode unmasked neg (fraction m (2 ^ 27))) (pow-join z k 1 refl)
       ∙ of-place mode unmasked neg (z * 2 ^ (k + 1))
       ∙ coarse-kept (z * 2 ^ (k + 1)) k z (sym p) lo hi mode unmasked neg
 
@@ -172,25 +168,17 @@ module _ (m e : ℕ) (fits : m < 2 ^ 64) {v : ℕ} (hv : v ≡ leadingZeros 64 m
       go false false f g = sym (lt-leb (2 ^ 43) (m * 2 ^ e) (small-to (leb-false _ _ g)))
 
   module _ (large : 2 ^ 43 ≤ m * 2 ^ e) where
-    m-pos : 0 < m
-    m-pos = go (eqb m 0) refl
-      where
-        go : (b : Bool) → eqb m 0 ≡ b → 0 < m
-        go true f = let z : m ≡ 0 = eqb-true m 0 f in absurd (let l : 2 ^ 43 ≤ 0 = rw (z, zero-mul (2 ^ e)) at large in omega arith)
-        go false f = let d : (m ≡ 0 → ⊥) = eqb-false m 0 f in omega arith
+    held : (not (eqb m 0) && leb v (e + 20)) ≡ true
+    held = large-test ∙ le-leb (2 ^ 43) (m * 2 ^ e) large
 
     size-pos : 1 ≤ size m
-    size-pos = size-large m 0 m-pos
+    size-pos = size-large m 0 (pos-of-ne-zero (eqb-false m 0 (not-true (eqb m 0) (and-left (not (eqb m 0)) (leb v (e + 20)) held))))
 
     pub zeros-lt : v < 64
     zeros-lt = omega (arith, zeros, size-pos)
 
     pub zeros-le : v ≤ e + 20
-    zeros-le = go (leb v (e + 20)) refl
-      where
-        go : (b : Bool) → leb v (e + 20) ≡ b → v ≤ e + 20
-        go true f = leb-true _ _ f
-        go false f = absurd (let l : m * 2 ^ e < 2 ^ 43 = small-to (leb-false _ _ f) in omega (arith, large))
+    zeros-le = leb-true v (e + 20) (and-right (not (eqb m 0)) (leb v (e + 20)) held)
 
     tops : (2 ^ 63 ≤ m * 2 ^ v) × (m * 2 ^ v < 2 ^ 64)
     tops =
@@ -209,8 +197,7 @@ module _ (m e : ℕ) (fits : m < 2 ^ 64) {v : ℕ} (hv : v ≡ leadingZeros 64 m
       pub large-rounds : (mode : Mode) (neg : Bool) {o : Outcome} → ((unmasked : Bool) → o ≡ roundedHalf mode unmasked neg (fraction (z * 2 ^ (e + 20 - v)) (2 ^ 26))) → (unmasked : Bool) → o ≡ roundedHalf mode unmasked neg (fraction (m * 2 ^ e) (2 ^ 57))
       large-rounds mode neg ho unmasked =
           let k : ℕ = e + 20 - v in
-          let f : m * 2 ^ v * 2 ^ k ≡ m * 2 ^ e * 2 ^ 20 =
-          mul-assoc m (2 ^ v) (2 ^ k) ∙ ap (λ (n : ℕ). m * n) (sym (pow-add 2 v k) ∙ ap (λ (n : ℕ). 2 ^ n) (let g : v + k ≡ e + 20 = omega (arith, zeros-le) in g) ∙ pow-add 2 e 20) ∙ sym (mul-assoc m (2 ^ e) (2 ^ 20)) in
+          let f : m * 2 ^ v * 2 ^ k ≡ m * 2 ^ e * 2 ^ 20 = pow-join m v k (let g : v + k ≡ e + 20 = omega (arith, zeros-le) in g) ∙ sym (pow-join m e 20 refl) in
           ho unmasked ∙ sym (digits mode unmasked neg (m * 2 ^ v) (2 ^ 52) z (omega arith) z-is (large-digits .0) k 25)
           ∙ ap (λ (n : ℕ). roundedHalf mode unmasked neg (fraction n (2 ^ 77))) f
           ∙ rounded-scale mode unmasked neg (m * 2 ^ e) (2 ^ 57) (2 ^ 20) (omega arith) (omega arith)

@@ -3,11 +3,11 @@ use Prim.Native.Nat.{ℕ, _+_, _*_, _/_, _%_, _^_, _≤_, _<_}
 use mathlib.Core.Bool.{Bool, true, false, not, _&&_}
 use mathlib.Core.Path.{_≡_, refl, sym, ap, _∙_}
 use native.Mathlib.Omega.{arith}
-use native.Mathlib.Nat.{mul-assoc, mul-le-mul, mul-mod-left}
+use native.Mathlib.Nat.{mul-le-mul, mul-mod-left}
 use lib.Arith.{digits-mod}
 use lib.Bits.{bitAnd, bitOr, and-mask, or-zero-l}
 use lib.Dec.{ltb, eqb}
-use lib.Pow.{pow-add, shl-exact}
+use lib.Pow.{shl-exact}
 use borrow.Author.Tests.{ltb-true, ltb-false, eq-eqb, ne-eqb}
 use Rattle.half.specs.Format.{exponentField, fractionField, significand, isFinite, isSubnormal, isZero, negative, units}
 use Rattle.half.specs.Exact.{fraction, rootOf}
@@ -16,6 +16,7 @@ use Rattle.half.specs.Operations.{unlike, exactSum, halfAdd, halfMultipl
 use Rattle.half.specs.Work.{isNormal}
 use Rattle.half.specs.declared.Mode.{Mode}
 use Rattle.half.specs.declared.Outcome.{Outcome}
+use Rattle.half.proofs.Places.{pow-join}
 use Rattle.half.proofs.Units.{lift, significand-lt}
 use Rattle.half.proofs.Sticky.{rounded-scale}
 use Rattle.half.proofs.Scales.{joined}
@@ -70,9 +71,8 @@ module _ (h : ℕ) (n : isNormal h ≡ true) where
   -- its magnitude in units of 2 ^ -25, by its exponent field
   pub normal-units : {x i : ℕ} → x ≡ significand h → i ≡ exponentField h → x * 2 ^ i ≡ units h * 2
   unfolding units
-  normal-units {x} hx hi =
-      ap (λ (e : ℕ). x * 2 ^ e) (hi ∙ (let f : exponentField h ≡ lift h + 1 = omega (arith, normal-ge) in f)) ∙ ap (λ (e : ℕ). x * e) (pow-add 2 (lift h) 1)
-      ∙ sym (mul-assoc x (2 ^ lift h) 2) ∙ ap (λ (e : ℕ). e * 2 ^ lift h * 2) hx
+  normal-units {x} {i} hx hi =
+      sym (pow-join x (lift h) 1 (let f : lift h + 1 ≡ i = omega (arith, normal-ge) in f)) ∙ ap (λ (s : ℕ). s * 2 ^ lift h * 2) hx
 
   -- as the code works it out
   pub normal-raised : {x i : ℕ} → x ≡ significand h → i ≡ exponentField h → x * 2 ^ i % 2 ^ 64 ≡ units h * 2
@@ -111,8 +111,7 @@ product-digits x y xl xh yl yh =
 pub product-units : (a b : ℕ) → isNormal a ≡ true → isNormal b ≡ true → {p i j : ℕ} → p ≡ significand a * significand b → i ≡ exponentField a → j ≡ exponentField b → p * 2 ^ (i + j + 7) ≡ units a * units b * 2 ^ 9
 product-units a b na nb {p} {i} {j} hp hi hj =
     let L : ℕ = lift a + lift b in
-    let e : i + j + 7 ≡ L + 9 = omega (arith, normal-ge a na, normal-ge b nb) in
-    ap (λ (m : ℕ). p * 2 ^ m) e ∙ ap (λ (m : ℕ). p * m) (pow-add 2 L 9) ∙ sym (mul-assoc p (2 ^ L) (2 ^ 9)) ∙ ap (λ (m : ℕ). m * 2 ^ L * 2 ^ 9) hp ∙ ap (λ (m : ℕ). m * 2 ^ 9) (sym (joined a b refl refl))
+    sym (pow-join p L 9 (let f : L + 9 ≡ i + j + 7 = omega (arith, normal-ge a na, normal-ge b nb) in f)) ∙ ap (λ (m : ℕ). m * 2 ^ L * 2 ^ 9) hp ∙ ap (λ (m : ℕ). m * 2 ^ 9) (sym (joined a b refl refl))
 
 pub product-rounds : (mode : Mode) (unmasked : Bool) (a b : ℕ) → isNormal a ≡ true → isNormal b ≡ true → {p i j : ℕ} {neg : Bool} {o : Outcome} → p ≡ significand a * significand b → i ≡ exponentField a → j ≡ exponentField b → neg ≡ unlike a b
     → o ≡ roundedHalf mode unmasked neg (fraction (p * 2 ^ (i + j + 7)) (2 ^ 57)) → o ≡ halfMultiply mode unmasked a b

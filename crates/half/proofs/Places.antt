@@ -3,7 +3,7 @@ use Prim.Native.Nat.{ℕ, zero, suc, _+_, _-_, _*_, _/_, _%_, _^_, _≤_, _<_, c
 use mathlib.Core.Bool.{Bool, true, false}
 use mathlib.Core.Path.{_≡_, refl, sym, ap, _∙_}
 use native.Mathlib.Omega.{arith}
-use native.Mathlib.Nat.{div-one, mod-one, mod-eq-of-lt, pow-succ', add-zero, mul-pos, mul-div-mul-right, mul-div-cancel, mul-mod-left, div-div-eq-div-mul, mod-lt, div-add-mod', mul-comm, le-antisymm, le-of-lt, le-of-eq, le-trans, lt-of-lt-of-le, le-of-suc-le-suc, lt-of-not-le, not-le-of-lt, div-lt-iff-lt-mul, le-div-iff-mul-le, div-eq-of-lt, mul-le-mul}
+use native.Mathlib.Nat.{div-one, mod-one, mod-eq-of-lt, pow-succ', add-zero, mul-pos, mul-div-mul-right, mul-div-cancel, mul-mod-left, div-div-eq-div-mul, mod-lt, div-add-mod', mul-comm, mul-assoc, le-antisymm, le-of-lt, le-of-eq, le-trans, lt-of-lt-of-le, le-of-suc-le-suc, lt-of-not-le, not-le-of-lt, div-lt-iff-lt-mul, le-div-iff-mul-le, div-eq-of-lt, mul-le-mul}
 use lib.Dec.{leb}
 use lib.Arith.{mod-mul, digits-div, digits-mod}
 use lib.Pow.{pow-pos, pow-mono, pow-add, split}
@@ -13,6 +13,11 @@ use lib.Ieee.Digits.{size-lt, size-le, size-reaches}
 use borrow.Author.Tests.{leb-true, leb-false}
 use Rattle.half.specs.Work.{more, place}
 use Rattle.half.proofs.Compare.{cmp, Cmp, cmp-lt, cmp-eq, cmp-gt}
+
+-- ---- powers of two
+
+pub pow-join : (n i j : ℕ) {k : ℕ} → i + j ≡ k → n * 2 ^ i * 2 ^ j ≡ n * 2 ^ k
+pow-join n i j e = mul-assoc n (2 ^ i) (2 ^ j) ∙ ap (λ (m : ℕ). n * m) (sym (pow-add 2 i j) ∙ ap (λ (m : ℕ). 2 ^ m) e)
 
 -- ---- numbers of digits
 

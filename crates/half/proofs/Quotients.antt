@@ -1,11 +1,11 @@
 -- Quotients as the code works them out: in the smaller one of the operands' units, and with one division.
 use Prim.Native.Nat.{ℕ, _+_, _-_, _*_, _/_, _%_, _^_, _≤_, _<_, min}
 use mathlib.Core.Bool.{Bool, true, false}
-use mathlib.Core.Path.{_≡_, refl, sym, ap, _∙_}
+use mathlib.Core.Path.{_≡_, refl, sym, _∙_}
 use native.Mathlib.Omega.{arith}
-use native.Mathlib.Nat.{div-le-self, div-lt-iff-lt-mul, mul-assoc, mul-pos}
+use native.Mathlib.Nat.{div-le-self, div-lt-iff-lt-mul, mul-pos}
 use lib.Dec.{leb}
-use lib.Pow.{pow-add, pow-pos}
+use lib.Pow.{pow-pos}
 use borrow.Author.Tests.{leb-true, leb-false}
 use Rattle.half.specs.Format.{exponentField, isZero, significand, units}
 use Rattle.half.specs.Exact.{fraction}
@@ -15,7 +15,7 @@ use Rattle.half.specs.Work.{more, place, isNormal}
 use Rattle.half.specs.declared.Mode.{Mode}
 use Rattle.half.specs.declared.Outcome.{Outcome}
 use Rattle.half.proofs.Units.{lift, lift-le, significand-lt, significand-pos, raised-exact}
-use Rattle.half.proofs.Places.{place-ge}
+use Rattle.half.proofs.Places.{pow-join, place-ge}
 use Rattle.half.proofs.Sticky.{rounded-scale}
 use Rattle.half.proofs.Digits.{digits}
 use Rattle.half.proofs.Normals.{normal-ge, normal-lt, normal-divide}
@@ -51,9 +51,7 @@ module _ (a b : ℕ) {s i j : ℕ} (hs : s ≡ significand a) (hi : i ≡ lift a
 
 in-units : (a b c : ℕ) → c ≡ min (lift a) (lift b) → beside a b * 2 ^ c ≡ units a
 unfolding units
-in-units a b c e =
-    mul-assoc (significand a) (2 ^ (lift a - lift b)) (2 ^ c)
-    ∙ ap (λ (n : ℕ). significand a * n) (sym (pow-add 2 (lift a - lift b) c) ∙ ap (λ (n : ℕ). 2 ^ n) (let f : lift a - lift b + c ≡ lift a = omega arith in f))
+in-units a b c e = pow-join (significand a) (lift a - lift b) c (let f : lift a - lift b + c ≡ lift a = omega arith in f)
 
 module _ (a b : ℕ) {x y : ℕ} (hx : x ≡ beside a b) (hy : y ≡ beside b a) where
   pub divisor-pos : isZero b ≡ false → 0 < y
@@ -87,9 +85,8 @@ module _ (a b : ℕ) (na : isNormal a ≡ true) (nb : isNormal b ≡ true) {x y 
       let e : ℕ = i + 35 - j in
       let c : ℕ = 56 - lift b in
       let n : x * 2 ^ 21 * 2 ^ e ≡ x * 2 ^ lift a * 2 ^ c =
-      mul-assoc x (2 ^ 21) (2 ^ e) ∙ ap (λ (m : ℕ). x * m) (sym (pow-add 2 21 e) ∙ ap (λ (m : ℕ). 2 ^ m) (let f : 21 + e ≡ lift a + c = omega (arith, normal-ge a na, normal-ge b nb, normal-lt b nb) in f) ∙ pow-add 2 (lift a) c) ∙ sym (mul-assoc x (2 ^ lift a) (2 ^ c)) in
-      let d : y * 2 ^ 56 ≡ y * 2 ^ lift b * 2 ^ c =
-      ap (λ (m : ℕ). y * m) (ap (λ (m : ℕ). 2 ^ m) (let f : 56 ≡ lift b + c = omega (arith, normal-lt b nb) in f) ∙ pow-add 2 (lift b) c) ∙ sym (mul-assoc y (2 ^ lift b) (2 ^ c)) in
+      pow-join x 21 e refl ∙ sym (pow-join x (lift a) c (let f : lift a + c ≡ 21 + e = omega (arith, normal-ge a na, normal-ge b nb, normal-lt b nb) in f)) in
+      let d : y * 2 ^ 56 ≡ y * 2 ^ lift b * 2 ^ c = sym (pow-join y (lift b) c (let f : lift b + c ≡ 56 = omega (arith, normal-lt b nb) in f)) in
       let s : roundedHalf mode unmasked neg (fraction (x * 2 ^ 21 * 2 ^ e) (y * 2 ^ 56)) ≡ roundedHalf mode unmasked neg (fraction (x * 2 ^ lift a) (y * 2 ^ lift b)) =
       rw (n, d) (rounded-scale mode unmasked neg (x * 2 ^ lift a) (y * 2 ^ lift b) (2 ^ c) (mul-pos y-pos (pow-pos (lift b))) (pow-pos c)) in
       h ∙ sym (digits mode unmasked neg (x * 2 ^ 21) y t y-pos ht (omega (arith, quotient-ge)) e 56) ∙ s ∙ rw (hx .0, hy .0, hn) (sym (normal-divide mode unmasked a b na nb))

@@ -1,7 +1,7 @@
 -- Roots as the code works them out: from the place of the root of a radicand N that has 23 or 24 digits, which has 13.
 use Prim.Native.Nat.{ℕ, _+_, _-_, _*_, _/_, _%_, _^_, _≤_, _<_, compare}
 use mathlib.Core.Bool.{Bool, true, false}
-use mathlib.Core.Path.{_≡_, sym, ap, _∙_}
+use mathlib.Core.Path.{_≡_, refl, sym, ap, _∙_}
 use native.Mathlib.Omega.{arith}
 use native.Mathlib.Nat.{mul-assoc, mul-le-mul, mod-eq-of-lt}
 use lib.Pow.{pow-pos, pow-add, pow-mono}
@@ -14,6 +14,7 @@ use Rattle.half.specs.Work.{place, rootPlace, isNormal}
 use Rattle.half.specs.declared.Mode.{Mode}
 use Rattle.half.specs.declared.Outcome.{Outcome}
 use Rattle.half.proofs.Compare.{cmp-scale}
+use Rattle.half.proofs.Places.{pow-join}
 use Rattle.half.proofs.Roots.{root-cut, root-place-cut, root-large, root-place-lt, N-lt, N-ge, N-square}
 use Rattle.half.proofs.Units.{lift, finite-lt, units-pos}
 use Rattle.half.proofs.Bridge.{Placed}
@@ -48,7 +49,7 @@ module _ {n N k z : ℕ} (r : Radicand n N k z) where
   pub root-rounds : (mode : Mode) (neg : Bool) {o : Outcome} → ((unmasked : Bool) → o ≡ roundedHalf mode unmasked neg (fraction (z * 2 ^ k) (2 ^ 26))) → (unmasked : Bool) → o ≡ roundedHalf mode unmasked neg (rootOf n (2 ^ 24))
   root-rounds mode neg h unmasked =
       h unmasked ∙ sym (rounded-scale mode unmasked neg (z * 2 ^ k) (2 ^ 26) 2 (omega arith) (omega arith))
-      ∙ ap (λ (m : ℕ). roundedHalf mode unmasked neg (fraction m (2 ^ 27))) (mul-assoc z (2 ^ k) 2 ∙ ap (λ (m : ℕ). z * m) (sym (pow-add 2 k 1)))
+      ∙ ap (λ (m : ℕ). roundedHalf mode unmasked neg (fraction m (2 ^ 27))) (pow-join z k 1 refl)
       ∙ sym (sticky-root mode unmasked neg)
 
 -- ---- the radicand of any finite half above 0, by half the exponent of its highest digit
@@ -100,9 +101,7 @@ module _ (a : ℕ) (na : isNormal a ≡ true) {s e : ℕ} (hs : (s ≡ significa
       let i : ℕ = 13 - e % 2 in
       let k : ℕ = (e + 13) / 2 + 1 in
       let f : lift a + 28 ≡ i + (k + k) = omega (arith, normal-ge a na) in
-      ap (λ (m : ℕ). m * 2 ^ lift a * 2 ^ 28) (sym (hs .0)) ∙ mul-assoc s (2 ^ lift a) (2 ^ 28)
-      ∙ ap (λ (m : ℕ). s * m) (sym (pow-add 2 (lift a) 28) ∙ ap (λ (m : ℕ). 2 ^ m) f ∙ pow-add 2 i (k + k) ∙ ap (λ (m : ℕ). 2 ^ i * m) (pow-add 2 k k))
-      ∙ sym (mul-assoc s (2 ^ i) (2 ^ k * 2 ^ k))
+      ap (λ (m : ℕ). m * 2 ^ lift a * 2 ^ 28) (sym (hs .0)) ∙ pow-join s (lift a) 28 f ∙ sym (pow-join s i (k + k) refl) ∙ ap (λ (m : ℕ). s * 2 ^ i * m) (pow-add 2 k k)
 
   pub normal-radicand : {z : ℕ} → z ≡ rootPlace 12 (s * 2 ^ (13 - e % 2) % 2 ^ 64) → Radicand (units a) (s * 2 ^ (13 - e % 2)) ((e + 13) / 2) z
   normal-radicand h =

@@ -13,7 +13,7 @@ use borrow.Author.Tests.{leb-true, leb-false}
 use Rattle.half.specs.Exact.{rootFrom}
 use Rattle.half.specs.Work.{more, place, rootPlace}
 use Rattle.half.specs.Format.{units, significand}
-use Rattle.half.proofs.Places.{size-large}
+use Rattle.half.proofs.Places.{pow-join, size-large}
 use Rattle.half.proofs.Units.{lift, significand-lt}
 use Rattle.half.proofs.Compare.{cmp, Cmp, cmp-lt, cmp-eq, cmp-gt}
 
@@ -212,9 +212,9 @@ module _ (a x j : ℕ) (hx : x ≡ units a) (pos : 0 < x) (hj : j ≡ (size x - 
   pub nothing-lost : N * 2 ^ (2 * j) ≡ x * 2 ^ 22
   unfolding units
   nothing-lost =
-      let w : 2 ^ lift a * 2 ^ 22 ≡ 2 ^ (lift a + 22 - 2 * j) * 2 ^ (2 * j) = sym (pow-add 2 (lift a) 22) ∙ ap (λ (n : ℕ). 2 ^ n) (let f : lift a + 22 ≡ lift a + 22 - 2 * j + 2 * j = omega (arith, digits) in f) ∙ pow-add 2 (lift a + 22 - 2 * j) (2 * j) in
-      let e : x * 2 ^ 22 ≡ significand a * 2 ^ (lift a + 22 - 2 * j) * 2 ^ (2 * j) = ap (λ (n : ℕ). n * 2 ^ 22) hx ∙ mul-assoc (significand a) (2 ^ lift a) (2 ^ 22) ∙ ap (λ (n : ℕ). significand a * n) w ∙ sym (mul-assoc (significand a) (2 ^ (lift a + 22 - 2 * j)) (2 ^ (2 * j))) in
-      rw e (ap (λ (n : ℕ). n * 2 ^ (2 * j)) (mul-div-cancel (significand a * 2 ^ (lift a + 22 - 2 * j)) (pow-pos (2 * j))))
+      let k : ℕ = lift a + 22 - 2 * j in
+      let e : x * 2 ^ 22 ≡ significand a * 2 ^ k * 2 ^ (2 * j) = ap (λ (n : ℕ). n * 2 ^ 22) hx ∙ pow-join (significand a) (lift a) 22 refl ∙ sym (pow-join (significand a) k (2 * j) (let f : k + 2 * j ≡ lift a + 22 = omega (arith, digits) in f)) in
+      rw e (ap (λ (n : ℕ). n * 2 ^ (2 * j)) (mul-div-cancel (significand a * 2 ^ k) (pow-pos (2 * j))))
 
   pub N-ge : 2 ^ 22 ≤ N
   N-ge = le-div-iff-mul-le (pow-pos (2 * j)) .1 (omega (arith, high))

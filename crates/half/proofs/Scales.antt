@@ -15,7 +15,7 @@ use mir.Facts.{toZ-ofZ, toZ-pos, fits-natAbs}
 use Rattle.half.specs.Work.{place, scale, Scaled}
 use Rattle.half.specs.declared.product.Product.{Product}
 use Rattle.half.specs.Format.{significand, units}
-use Rattle.half.proofs.Places.{place-scale, place-two}
+use Rattle.half.proofs.Places.{pow-join, place-scale, place-two}
 use Rattle.half.proofs.Units.{lift, lift-le, significand-lt}
 
 diff-is : (a b : ℕ) → subℕ a b ≡ pos a +ℤ negℤ (pos b)
@@ -193,7 +193,7 @@ module _ (a b : ℕ) {x y : ℕ} (hx : x ≡ significand a) (hy : y ≡ signific
             down = λ _. (
               omega arith,
               omega arith,
-              ap (λ (n : ℕ). n * 2 ^ k) joined ∙ mul-assoc (x * y) (2 ^ (lift a + lift b)) (2 ^ k) ∙ ap (λ (n : ℕ). x * y * n) (sym (pow-add 2 (lift a + lift b) k) ∙ ap (λ (n : ℕ). 2 ^ n) (let f : lift a + lift b + k ≡ 22 = omega arith in f)),
+              ap (λ (n : ℕ). n * 2 ^ k) joined ∙ pow-join (x * y) (lift a + lift b) k (let f : lift a + lift b + k ≡ 22 = omega arith in f),
             );
           }
 

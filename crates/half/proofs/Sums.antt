@@ -7,7 +7,7 @@ use native.Mathlib.Omega.{arith}
 use native.Mathlib.Nat.{zero-div, zero-mod, add-mul, mul-assoc, mul-le-mul, mod-eq-of-lt}
 use lib.Bits.{bitOr}
 use lib.Dec.{ltb, leb}
-use lib.Pow.{pow-add, pow-pos, pow-mono}
+use lib.Pow.{pow-pos, pow-mono}
 use borrow.Author.Tests.{lt-ltb, le-ltb, ltb-true, ltb-false, leb-true, leb-false}
 use Rattle.half.specs.Format.{exponentField, significand, isSubnormal, negative, withSign, units}
 use Rattle.half.specs.Exact.{fraction}
@@ -18,6 +18,7 @@ use Rattle.half.specs.declared.Mode.{Mode}
 use Rattle.half.specs.declared.Outcome.{Outcome}
 use Rattle.half.specs.declared.normal.Sum.{Sum}
 use Rattle.half.proofs.Cases.{again}
+use Rattle.half.proofs.Places.{pow-join}
 use Rattle.half.proofs.Normals.{normal-units, normal-add, normal-multiply-add, product-units}
 use Rattle.half.proofs.Sticky.{sticky-shift, less-scale, ltb-scale, sum-scale}
 use Rattle.half.proofs.Steps.{zero-rounds}
@@ -148,7 +149,7 @@ module _ (x i y j : ℕ) {l : ℕ} (hl : l ≡ min i j) (hx : x < 2 ^ 22) (hy : 
   shl-y = mod-eq-of-lt (omega (arith, fit))
 
   back : (n k : ℕ) → l ≤ k → n * 2 ^ (k - l) * 2 ^ l ≡ n * 2 ^ k
-  back n k g = mul-assoc n (2 ^ (k - l)) (2 ^ l) ∙ ap (λ (e : ℕ). n * e) (sym (pow-add 2 (k - l) l) ∙ ap (λ (e : ℕ). 2 ^ e) (let f : k - l + l ≡ k = omega arith in f))
+  back n k g = pow-join n (k - l) l (let f : k - l + l ≡ k = omega arith in f)
 
   pub shifted-fit : x * 2 ^ (i - l) % 2 ^ 64 + y * 2 ^ (j - l) % 2 ^ 64 < 2 ^ 64
   shifted-fit = rw (shl-x, shl-y) fit
@@ -164,7 +165,7 @@ module _ (x i y j : ℕ) {l : ℕ} (hl : l ≡ min i j) (hx : x < 2 ^ 22) (hy : 
 pub normal-fused : (a b c : ℕ) → isNormal a ≡ true → isNormal b ≡ true → isNormal c ≡ true → {x i j y k : ℕ} {sx sy : Bool} {s : Sum} → x ≡ significand a * significand b → i ≡ exponentField a → j ≡ exponentField b
     → y ≡ significand c → k ≡ exponentField c → sx ≡ unlike a b → sy ≡ negative c → Summed sx (x * 2 ^ (i + j + 7)) sy (y * 2 ^ (k + 32)) s → Summed (unlike a b) (units a * units b * 2 ^ 9) (negative c) (units c * 2 ^ 33) s
 normal-fused a b c na nb nc {y = y} {k = k} hx hi hj hy hk hs ht h =
-    let e : y * 2 ^ (k + 32) ≡ units c * 2 ^ 33 = ap (λ (n : ℕ). y * n) (pow-add 2 k 32) ∙ sym (mul-assoc y (2 ^ k) (2 ^ 32)) ∙ ap (λ (n : ℕ). n * 2 ^ 32) (normal-units c nc hy hk) ∙ mul-assoc (units c) 2 (2 ^ 32) in
+    let e : y * 2 ^ (k + 32) ≡ units c * 2 ^ 33 = sym (pow-join y k 32 refl) ∙ ap (λ (n : ℕ). n * 2 ^ 32) (normal-units c nc hy hk) ∙ mul-assoc (units c) 2 (2 ^ 32) in
     rw (← hs, ← ht, ← product-units a b na nb hx hi hj, ← e) h
 
 -- rounded, where it is large

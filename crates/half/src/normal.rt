@@ -1,6 +1,6 @@
 // The short way of normal operands, whose exponent fields are 1 to 30: no zero, no subnormal, nothing special. Digits and exponent stay
-// apart: a magnitude is m * 2^e in units of 2^-57, so small that no exponent goes below 0. An operation tests its operands one by one and
-// calls what serves any operands at each test: the back end puts a function that is called once into its caller, however large.
+// apart: a magnitude is m * 2^e in units of 2^-57, so small that no exponent goes below 0. Operations call what serves any operands at two
+// places or more: the back end puts a function that is called once into its caller, however large.
 ghost use mathlib.Core.Path.{_≡_};
 ghost use Prim.Native.Nat.{_<_, _≤_, _+_, _*_, _^_};
 ghost use mathlib.Core.Bool.{Bool, true};
@@ -95,7 +95,7 @@ pub fn round_large(mode: Mode, neg: bool, m: u64, e: u32) -> Outcome
     packed(mode, neg, z, e + 20 - zeros)
 }
 
-// m * 2^e rounded, where the half may be subnormal.
+// m * 2^e rounded, where the half may be subnormal. Callers test which of the two it is: in one function the back end puts both out of line.
 pub fn round_small(mode: Mode, unmasked: bool, neg: bool, m: u64, e: u32) -> Outcome
     requires { ⌜ e < 31 ⌝ }
     ensures { λ r. ⌜ r ≡ roundedHalf mode unmasked neg (fraction (m * 2 ^ e) (2 ^ 57)) ⌝ }
