@@ -10,7 +10,7 @@ use borrow.Author.Tests.{lt-ltb, le-ltb, ltb-true, ltb-false}
 use lib.Dec.{ltb}
 use lib.ListN.{length, length-append}
 use lib.Pow.{pow-add}
-use Rattle.machine.proofs.Tables.{length-table}
+use Rattle.lists.proofs.Tables.{length-table}
 use Rattle.command.specs.Command.{decimalOf, decimal, hex8}
 
 -- at most n of them

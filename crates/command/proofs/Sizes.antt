@@ -7,7 +7,7 @@ use mathlib.Core.List.{List, [], _∷_, map}
 use native.Mathlib.Omega.{arith}
 use lib.Dec.{lit≤}
 use lib.ListN.{length}
-use Rattle.evex.specs.First.{firstOf}
+use Rattle.lists.specs.Lists.{firstOf}
 use Rattle.evex.specs.Fields.{headOf, listed, hasSib, displacementAt, displacementSize, size, displacementOf, instruction}
 use Rattle.evex.specs.Decode.{refusals, fields, decoded}
 use Rattle.evex.specs.declared.head.Head.{Head}

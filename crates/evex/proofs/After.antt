@@ -10,7 +10,7 @@ use lib.Dec.{eqb}
 use lib.IntN.{ℤ}
 use lib.ListN.{length, take, List·getD-append, length-append}
 use lib.Seq.{getD-take, length-take-le}
-use Rattle.evex.specs.First.{firstOf, NoneHolds}
+use Rattle.lists.specs.Lists.{firstOf, NoneHolds}
 use Rattle.evex.specs.Bits.{byte}
 use Rattle.evex.specs.Fields.{headOf, takesSib, listed, hasSib, displacementAt, displacementSize, size, displacementOf, instruction}
 use Rattle.evex.specs.Decode.{noBytes, wrongFirstByte, fewerThanSixBytes, bytesMissing, refusals, fields, decoded}

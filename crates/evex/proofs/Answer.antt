@@ -4,7 +4,7 @@ use mathlib.Core.Path.{_≡_, refl, _∙_}
 use mathlib.Core.Bool.{Bool, true, false, cond}
 use mathlib.Core.List.{List, [], _∷_, map}
 use Prim.Native.Nat.{ℕ}
-use Rattle.evex.specs.First.{firstOf}
+use Rattle.lists.specs.Lists.{firstOf}
 use Rattle.evex.specs.Fields.{headOf, listed}
 use Rattle.evex.specs.Decode.{numberOf, notInList, refusals, fields, decoded}
 use Rattle.evex.specs.declared.list.Listed.{Listed}

@@ -8,7 +8,7 @@ use native.Mathlib.Omega.{arith}
 use native.Mathlib.Nat.{add-le-add}
 use lib.Dec.{eqb, lit≤}
 use lib.IntN.{ℤ}
-use Rattle.evex.specs.First.{firstOf}
+use Rattle.lists.specs.Lists.{firstOf}
 use Rattle.evex.specs.Bits.{bits}
 use Rattle.evex.specs.List.{hasFirst}
 use Rattle.evex.specs.Fields.{headOf, b, lengthBits, modBits, rm, listed, destination, firstSource, secondSource, first, registerForm, embeddedRounding, lanes, rounding, hasSib, baseBits, indexNumber, indexOf, noBase, baseOf, displacementAt, displacementSize, size, displacementOf, second, instruction}

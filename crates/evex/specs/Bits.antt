@@ -1,10 +1,11 @@
--- Bits of a byte, and the numbers that bytes stand for.
+-- Bits of a byte, and signed numbers.
 use Prim.Native.Nat.{ℕ, _+_, _-_, _*_, _/_, _%_, _^_}
 use mathlib.Core.Bool.{Bool, cond}
 use mathlib.Core.List.{List, [], _∷_}
 use lib.Dec.{eqb, ltb}
 use lib.IntN.{ℤ, pos, _-ℤ_}
 use lib.ListN.{getD}
+use Rattle.lists.specs.Lists.{numberAt}
 
 -- `width` bits of x, from bit `at` on.
 abbrev pub bits : ℕ → ℕ → ℕ → ℕ
@@ -20,11 +21,6 @@ inverted x at width = 2 ^ width - 1 - bits x at width
 -- The byte at a place; past the end it reads as 0.
 abbrev pub byte : List ℕ → ℕ → ℕ
 byte code at = getD code at 0
-
--- The little-endian number whose bytes stand at these places of a list.
-abbrev pub numberAt : List ℕ → List ℕ → ℕ
-numberAt l [] = 0
-numberAt l (p ∷ ps) = getD l p 0 + numberAt l ps * 256
 
 -- The number of four bytes from a place on.
 abbrev pub word : List ℕ → ℕ → ℕ

@@ -4,7 +4,7 @@ use mathlib.Core.Bool.{Bool, true, false, not, _&&_, _||_}
 use mathlib.Core.List.{List, [], _∷_, map}
 use lib.Dec.{eqb, ltb}
 use lib.ListN.{length}
-use Rattle.evex.specs.First.{firstOf}
+use Rattle.lists.specs.Lists.{firstOf}
 use Rattle.evex.specs.Bits.{isSet, byte}
 use Rattle.evex.specs.List.{hasFirst}
 use Rattle.evex.specs.Fields.{headOf, listed, lengthBits, embeddedRounding, z, aaa, firstSource, size, displacementOf, instruction}

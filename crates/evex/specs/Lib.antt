@@ -1,5 +1,4 @@
 -- What a reader opens, in this order: List is the instructions' table, Fields the fields, Decode the refusals and the whole.
-pub mod First
 pub mod Bits
 pub mod List
 pub mod Fields

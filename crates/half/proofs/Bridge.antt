@@ -11,7 +11,7 @@ use lib.Ieee.{size}
 use lib.Ieee.Digits.{size-lt, size-le, size-reaches}
 use borrow.Author.Tests.{le-leb, lt-leb, le-ltb, lt-ltb, eq-eqb, ne-eqb, leb-true, leb-false, ltb-true, ltb-false, eqb-true, eqb-false}
 use Rattle.half.specs.Format.{withSign}
-use Rattle.half.specs.Exact.{Magnitude, fraction, rootOf, denominator, against, whole, roundTo}
+use Rattle.half.specs.Exact.{Magnitude, ratio, rootOf, denominator, against, whole, roundTo}
 use Rattle.half.specs.Round.{OE, UE, PE, flag, result, significant, overflows, inexact, tiny, encode, overflowFields, roundedHalf}
 use Rattle.half.specs.Work.{place}
 use Rattle.half.specs.declared.Mode.{Mode}
@@ -108,7 +108,7 @@ pub left-one : (x : Magnitude) (b : ℕ) → left x b ≡ left x 1 * weight x b
 left-one x b = ap (λ (y : ℕ). left x y) (sym (one-mul b)) ∙ left-scale x 1 b
 
 pub right-zero : (x : Magnitude) → right x 0 ≡ 0
-right-zero (fraction n d) = omega arith
+right-zero (ratio n d) = omega arith
 right-zero (rootOf n d) = omega arith
 
 pub significant-zero : (x : Magnitude) → 0 < denominator x → (mode : Mode) (neg : Bool) (l : ℕ) → left x 1 ≡ 0 → significant l mode neg x ≡ 0
@@ -120,7 +120,7 @@ significant-zero x hd mode neg l h =
 
 -- the fine unit is fine enough
 pub fine-enough : (x : Magnitude) → 0 < left x 1 → right x 1 ≤ left x (2 ^ (24 + size (denominator x)))
-fine-enough (fraction n d) h =
+fine-enough (ratio n d) h =
     let a : d < 2 ^ size d = size-lt d in
     let b : 2 ^ size d ≤ 2 ^ (24 + size d) = pow-mono (omega arith) in
     let c : 1 * 2 ^ (24 + size d) ≤ n * 2 ^ (24 + size d) = mul-le-mul-right {m = 1} {n = n} (2 ^ (24 + size d)) (omega arith) in omega arith
@@ -134,18 +134,18 @@ fine-enough (rootOf n d) h =
 -- ---- z / 4 rounded to a whole number
 
 abbrev pub steps : Mode → Bool → ℕ → ℕ
-steps mode neg z = roundTo mode neg (fraction z 4) 1 1
+steps mode neg z = roundTo mode neg (ratio z 4) 1 1
 
 module _ (mode : Mode) (neg : Bool) (z : ℕ) where
-  pub quarter : whole (fraction z 4) 1 1 ≡ z / 4
+  pub quarter : whole (ratio z 4) 1 1 ≡ z / 4
   unfolding whole
   quarter = ap (λ (n : ℕ). n / 4) (mul-one z)
 
   pub steps-ge : z / 4 ≤ steps mode neg z
-  steps-ge = omega (arith, roundTo-ge mode neg (fraction z 4) 1 1, quarter)
+  steps-ge = omega (arith, roundTo-ge mode neg (ratio z 4) 1 1, quarter)
 
   pub steps-le : steps mode neg z ≤ z / 4 + 1
-  steps-le = omega (arith, roundTo-le mode neg (fraction z 4) 1 1, quarter)
+  steps-le = omega (arith, roundTo-le mode neg (ratio z 4) 1 1, quarter)
 
   -- it differs from z / 4 exactly if something is left
   pub steps-left : not (eqb z (2 * (2 * steps mode neg z))) ≡ not (eqb (z % 4) 0)
@@ -154,7 +154,7 @@ module _ (mode : Mode) (neg : Bool) (z : ℕ) where
       go : (b : Bool) → eqb (z % 4) 0 ≡ b → not (eqb z (2 * (2 * steps mode neg z))) ≡ not b
       go true e =
           let r : z % 4 ≡ 0 = eqb-true _ _ e in
-          let s : steps mode neg z ≡ z / 4 = roundTo-exact mode neg (fraction z 4) 1 1 (omega arith) (omega arith) (z / 4) (omega arith) in
+          let s : steps mode neg z ≡ z / 4 = roundTo-exact mode neg (ratio z 4) 1 1 (omega arith) (omega arith) (z / 4) (omega arith) in
           rw (eq-eqb z (2 * (2 * steps mode neg z)) (omega arith))
       go false e =
           let r : (z % 4 ≡ 0 → ⊥) = eqb-false _ _ e in
@@ -180,7 +180,7 @@ module _ (x : Magnitude) (t : ℕ) (hd : 0 < denominator x) (p : Placed x t) whe
 
   pub round-steps : (mode : Mode) (neg : Bool) (h : ℕ) → 0 < h → roundTo mode neg x (2 * h) (2 ^ 26) ≡ steps mode neg (place t (2 * h))
   unfolding against
-  round-steps mode neg h hh = roundTo-same x (fraction (place t (2 * h)) 4) hd (omega arith) (2 * h) (2 ^ 26) 1 1 (omega arith) (omega arith) same mode neg
+  round-steps mode neg h hh = roundTo-same x (ratio (place t (2 * h)) 4) hd (omega arith) (2 * h) (2 ^ 26) 1 1 (omega arith) (omega arith) same mode neg
     where
       same : (n : ℕ) → against x (n * (2 * h)) (2 ^ 27) ≡ compare (place t (2 * h) * 2) (n * 1 * 4)
       same n =
@@ -210,13 +210,13 @@ over-test S q lo hi = go (leb S 28) (leb 30 S) refl refl
 
 -- ---- the code's way
 unfoldable pub coarse : Mode → Bool → Bool → ℕ → Outcome
-coarse mode unmasked neg t =
+coarse mode unmaskedUE neg t =
     let k = size t - 14 in
     let z = place t (2 ^ (k + 2)) in
     let m = k * 1024 + steps mode neg z in
     let left = not (eqb (z % 4) 0) in
     cond (leb 31744 m) (result (withSign neg (overflowFields mode neg)) (bitOr OE PE))
-    (result (withSign neg m) (bitOr (flag PE left) (flag UE ((ltb 0 t && ltb (steps mode neg t) 2048) && (unmasked || left)))))
+    (result (withSign neg m) (bitOr (flag PE left) (flag UE ((ltb 0 t && ltb (steps mode neg t) 2048) && (unmaskedUE || left)))))
 
 -- ---- the bridge
 module _ (x : Magnitude) (t : ℕ) (hd : 0 < denominator x) (p : Placed x t) (mode : Mode) (neg : Bool) where
@@ -413,6 +413,6 @@ module _ (x : Magnitude) (t : ℕ) (hd : 0 < denominator x) (p : Placed x t) (mo
   pub overflows-is : overflows mode neg x ≡ leb 31744 ((size t - 14) * 1024 + steps mode neg z14)
   overflows-is = rw fine-is (over-is (size (denominator x) - 1))
 
-  pub bridge : (unmasked : Bool) → roundedHalf mode unmasked neg x ≡ coarse mode unmasked neg t
+  pub bridge : (unmaskedUE : Bool) → roundedHalf mode unmaskedUE neg x ≡ coarse mode unmaskedUE neg t
   unfolding roundedHalf coarse
-  bridge unmasked = rw (overflows-is, inexact-is, encoded, tiny-is)
+  bridge unmaskedUE = rw (overflows-is, inexact-is, encoded, tiny-is)

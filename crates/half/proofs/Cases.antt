@@ -5,7 +5,7 @@ use mathlib.Core.List.{[], _∷_}
 use mathlib.Core.Path.{_≡_, refl}
 use borrow.Author.Tests.{not-true}
 use Rattle.half.specs.Format.{isFinite, isNan, isSignalling, isSubnormal, isZero, negative, units}
-use Rattle.half.specs.Exact.{fraction, rootOf}
+use Rattle.half.specs.Exact.{ratio, rootOf}
 use Rattle.half.specs.Round.{roundedHalf}
 use Rattle.half.specs.Operations.{nanResult, withDenormals, unlike, exactSum, halfAdd, halfMultiply, halfDivide, halfRoot, halfMultiplyAdd}
 use Rattle.half.specs.declared.Mode.{Mode}
@@ -39,7 +39,7 @@ and-right true q e = e
 and-right false q e = cc
 
 -- ---- finite operands: neither 1 nor 2 applies, and no infinity takes part
-module _ (mode : Mode) (unmasked : Bool) (a b : ℕ) where
+module _ (mode : Mode) (unmaskedUE : Bool) (a b : ℕ) where
   module _ (f : (isFinite a && (isFinite b && isFinite b)) ≡ true) where
     fa : isFinite a ≡ true
     fa = and-left (isFinite a) (isFinite b && isFinite b) f
@@ -47,11 +47,11 @@ module _ (mode : Mode) (unmasked : Bool) (a b : ℕ) where
     fb : isFinite b ≡ true
     fb = and-left (isFinite b) (isFinite b) (and-right (isFinite a) (isFinite b && isFinite b) f)
 
-    pub finite-add : halfAdd mode unmasked a b ≡ withDenormals (a ∷ b ∷ []) (exactSum mode unmasked (negative a) (units a) (negative b) (units b) (2 ^ 24))
+    pub finite-add : halfAdd mode unmaskedUE a b ≡ withDenormals (a ∷ b ∷ []) (exactSum mode unmaskedUE (negative a) (units a) (negative b) (units b) (2 ^ 24))
     unfolding halfAdd
     finite-add = rw (finite-no-nan a fa, finite-no-nan b fb, finite-no-infinity a fa, finite-no-infinity b fb)
 
-    pub finite-multiply : halfMultiply mode unmasked a b ≡ withDenormals (a ∷ b ∷ []) (roundedHalf mode unmasked (unlike a b) (fraction (units a * units b) (2 ^ 48)))
+    pub finite-multiply : halfMultiply mode unmaskedUE a b ≡ withDenormals (a ∷ b ∷ []) (roundedHalf mode unmaskedUE (unlike a b) (ratio (units a * units b) (2 ^ 48)))
     unfolding halfMultiply
     finite-multiply = rw (finite-no-nan a fa, finite-no-nan b fb, finite-no-infinity a fa, finite-no-infinity b fb, and-false (isZero a))
 
@@ -65,11 +65,11 @@ module _ (mode : Mode) (unmasked : Bool) (a b : ℕ) where
     pub divisor-not-zero : isZero b ≡ false
     divisor-not-zero = not-true (isZero b) (and-right (isFinite b) (not (isZero b)) (and-right (isFinite a) (isFinite b && not (isZero b)) f))
 
-    pub finite-divide : halfDivide mode unmasked a b ≡ withDenormals (a ∷ b ∷ []) (roundedHalf mode unmasked (unlike a b) (fraction (units a) (units b)))
+    pub finite-divide : halfDivide mode unmaskedUE a b ≡ withDenormals (a ∷ b ∷ []) (roundedHalf mode unmaskedUE (unlike a b) (ratio (units a) (units b)))
     unfolding halfDivide
     finite-divide = rw (finite-no-nan a dividend-finite, finite-no-nan b divisor-finite, finite-no-infinity a dividend-finite, finite-no-infinity b divisor-finite, divisor-not-zero, and-false (isZero a), and-false (isFinite a && not (isZero a)))
 
-module _ (mode : Mode) (unmasked : Bool) (a b c : ℕ) (f : (isFinite a && (isFinite b && isFinite c)) ≡ true) where
+module _ (mode : Mode) (unmaskedUE : Bool) (a b c : ℕ) (f : (isFinite a && (isFinite b && isFinite c)) ≡ true) where
   first : isFinite a ≡ true
   first = and-left (isFinite a) (isFinite b && isFinite c) f
 
@@ -79,8 +79,8 @@ module _ (mode : Mode) (unmasked : Bool) (a b c : ℕ) (f : (isFinite a && (isFi
   pub third : isFinite c ≡ true
   third = and-right (isFinite b) (isFinite c) (and-right (isFinite a) (isFinite b && isFinite c) f)
 
-  pub finite-multiply-add : halfMultiplyAdd mode unmasked a b c
-      ≡ withDenormals (a ∷ b ∷ c ∷ []) (exactSum mode unmasked (unlike a b) (units a * units b) (negative c) (units c * 2 ^ 24) (2 ^ 48))
+  pub finite-multiply-add : halfMultiplyAdd mode unmaskedUE a b c
+      ≡ withDenormals (a ∷ b ∷ c ∷ []) (exactSum mode unmaskedUE (unlike a b) (units a * units b) (negative c) (units c * 2 ^ 24) (2 ^ 48))
   unfolding halfMultiplyAdd
   finite-multiply-add =
       rw (finite-no-nan a first, finite-no-nan b second, finite-no-nan c third, finite-no-infinity a first, finite-no-infinity b second, finite-no-infinity c third, and-false (isZero a))
@@ -99,9 +99,9 @@ module _ (a : ℕ) (f : (isFinite a && (not (negative a) && not (isZero a))) ≡
   pub root-finite : (isFinite a ≡ true) × (isZero a ≡ false)
   root-finite = (radicand-finite, not-zero)
 
-  pub finite-root : (mode : Mode) (unmasked : Bool) → halfRoot mode unmasked a ≡ withDenormals (a ∷ a ∷ a ∷ []) (roundedHalf mode unmasked false (rootOf (units a) (2 ^ 24)))
+  pub finite-root : (mode : Mode) (unmaskedUE : Bool) → halfRoot mode unmaskedUE a ≡ withDenormals (a ∷ a ∷ a ∷ []) (roundedHalf mode unmaskedUE false (rootOf (units a) (2 ^ 24)))
   unfolding halfRoot
-  finite-root mode unmasked =
+  finite-root mode unmaskedUE =
       rw (finite-no-nan a radicand-finite, finite-no-infinity a radicand-finite, not-zero, not-true (negative a) (and-left (not (negative a)) (not (isZero a)) above-zero), again (isSubnormal a), again (isSubnormal a))
 
 -- the code's test of a dividend and a divisor

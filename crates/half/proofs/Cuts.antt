@@ -7,7 +7,7 @@ use native.Mathlib.Nat.{mul-assoc, mul-comm, mul-right-comm, mul-mul-mul-comm, m
 use lib.Pow.{pow-pos}
 use lib.Ieee.{size, nearest}
 use lib.Ieee.Digits.{size-lt}
-use Rattle.half.specs.Exact.{Magnitude, fraction, rootOf, denominator, against, wholeRoot, whole, isNearest, outward, ceiling, roundTo}
+use Rattle.half.specs.Exact.{Magnitude, ratio, rootOf, denominator, against, wholeRoot, whole, isNearest, outward, ceiling, roundTo}
 use Rattle.half.specs.declared.Mode.{Mode}
 use Rattle.half.proofs.Compare.{cmp-lt, cmp-eq, cmp-scale, same-ge, same-below}
 use Rattle.half.proofs.Roots.{Root, root-of}
@@ -15,47 +15,47 @@ use Rattle.half.proofs.Roots.{Root, root-of}
 -- ---- the two sides
 
 abbrev pub left : Magnitude → ℕ → ℕ
-left (fraction n d) b = n * b
+left (ratio n d) b = n * b
 left (rootOf n d) b = n * (b * b)
 
 abbrev pub right : Magnitude → ℕ → ℕ
-right (fraction n d) a = a * d
+right (ratio n d) a = a * d
 right (rootOf n d) a = a * a * d
 
 abbrev pub weight : Magnitude → ℕ → ℕ
-weight (fraction n d) c = c
+weight (ratio n d) c = c
 weight (rootOf n d) c = c * c
 
 pub against-is : (x : Magnitude) (a b : ℕ) → against x a b ≡ compare (left x b) (right x a)
 unfolding against
-against-is (fraction n d) a b = refl
+against-is (ratio n d) a b = refl
 against-is (rootOf n d) a b = refl
 
 pub left-scale : (x : Magnitude) (b c : ℕ) → left x (b * c) ≡ left x b * weight x c
-left-scale (fraction n d) b c = sym (mul-assoc n b c)
+left-scale (ratio n d) b c = sym (mul-assoc n b c)
 left-scale (rootOf n d) b c = ap (λ (z : ℕ). n * z) (mul-mul-mul-comm b c b c) ∙ sym (mul-assoc n (b * b) (c * c))
 
 pub right-scale : (x : Magnitude) (a c : ℕ) → right x (a * c) ≡ right x a * weight x c
-right-scale (fraction n d) a c = mul-right-comm a c d
+right-scale (ratio n d) a c = mul-right-comm a c d
 right-scale (rootOf n d) a c = ap (λ (z : ℕ). z * d) (mul-mul-mul-comm a c a c) ∙ mul-right-comm (a * a) (c * c) d
 
 pub weight-pos : (x : Magnitude) (c : ℕ) → 0 < c → 0 < weight x c
-weight-pos (fraction n d) c h = h
+weight-pos (ratio n d) c h = h
 weight-pos (rootOf n d) c h = mul-pos h h
 
 pub right-mono : (x : Magnitude) {a c : ℕ} → a ≤ c → right x a ≤ right x c
-right-mono (fraction n d) h = mul-le-mul-right d h
+right-mono (ratio n d) h = mul-le-mul-right d h
 right-mono (rootOf n d) h = mul-le-mul-right d (mul-le-mul h h)
 
 pub right-strict : (x : Magnitude) → 0 < denominator x → {a c : ℕ} → a < c → right x a < right x c
-right-strict (fraction n d) hd h = mul-lt-mul-of-pos-right h hd
+right-strict (ratio n d) hd h = mul-lt-mul-of-pos-right h hd
 right-strict (rootOf n d) hd {a} {c} h = mul-lt-mul-of-pos-right (let p : suc a * suc a ≤ c * c = mul-le-mul h h in omega arith) hd
 
 pub against-scale : (x : Magnitude) (a b c : ℕ) → 0 < c → against x (a * c) (b * c) ≡ against x a b
 against-scale x a b c h =
     against-is x (a * c) (b * c) ∙ rw (left-scale x b c, right-scale x a c) (cmp-scale (left x b) (right x a) (weight x c) (weight-pos x c h)) ∙ sym (against-is x a b)
 
--- ---- the order of fractions around x: x ≤ a / b and so on, also across denominators
+-- ---- the order of ratios around x: x ≤ a / b and so on, also across denominators
 pub le-scale : (x : Magnitude) (a b c : ℕ) → 0 < c → left x (b * c) ≤ right x (a * c) → left x b ≤ right x a
 le-scale x a b c h l = le-of-mul-le-mul-right {k = weight x c} (le-trans (le-of-eq (sym (left-scale x b c))) (le-trans l (le-of-eq (right-scale x a c)))) (weight-pos x c h)
 
@@ -81,7 +81,7 @@ whole-root n = root-of (size n) n (lt-of-lt-of-le (size-lt n) (let p : 0 < 2 ^ s
 
 pub whole-spec : (x : Magnitude) (a b : ℕ) → 0 < denominator x → 0 < a → (right x (whole x a b * a) ≤ left x b) × (left x b < right x ((whole x a b + 1) * a))
 unfolding whole
-whole-spec (fraction n d) a b hd ha =
+whole-spec (ratio n d) a b hd ha =
     let D : 0 < d * a = mul-pos hd ha in
     let q : ℕ = n * b / (d * a) in (
       le-trans (le-of-eq (mul-assoc q a d ∙ ap (λ (z : ℕ). q * z) (mul-comm a d))) (div-mul-le-self (n * b) (d * a)),

@@ -13,7 +13,7 @@ use lib.Ieee.{size}
 use lib.Ieee.Digits.{size-lt, size-reaches}
 use borrow.Author.Tests.{le-leb, lt-leb, le-ltb, leb-true, leb-false, eqb-true, eqb-false, not-true}
 use Rattle.half.specs.Format.{withSign}
-use Rattle.half.specs.Exact.{Magnitude, fraction, denominator}
+use Rattle.half.specs.Exact.{Magnitude, ratio, denominator}
 use Rattle.half.specs.Round.{OE, PE, flag, result, overflowFields, roundedHalf}
 use Rattle.half.specs.Work.{place}
 use Rattle.half.specs.declared.Mode.{Mode}
@@ -22,7 +22,7 @@ use Rattle.half.proofs.Compare.{and-false}
 use Rattle.half.proofs.Places.{pow-join, size-is, size-large, zeros-size, place-scale, place-place, place-two, place-ge, place-lt}
 use Rattle.half.proofs.Cases.{and-left, and-right}
 use Rattle.half.proofs.Bridge.{steps, steps-ge, Placed, coarse, bridge}
-use Rattle.half.proofs.Sticky.{of-place, sticky-shift, sticky-fraction, rounded-scale}
+use Rattle.half.proofs.Sticky.{of-place, sticky-shift, sticky-ratio, rounded-scale}
 
 -- ---- z / 4 in steps of 2 ^ (k - 24), for a z of 13 digits: a normal half, or too large
 unfoldable kept : Mode → Bool → ℕ → ℕ → Outcome
@@ -42,9 +42,9 @@ module _ (T k z : ℕ) (e : z ≡ place T (2 ^ (k + 2))) (lo : 2 ^ 12 ≤ z) (hi
   T-lt : T < 2 ^ suc (k + 13)
   T-lt = omega (arith, pow-add 2 k 2, pow-add 2 k 13, pow-succ' 2 (k + 13), div-lt-iff-lt-mul {k = 2 ^ (k + 2)} {x = T} {y = 2 ^ 12} (pow-pos (k + 2)) .0 (omega (arith, whole-z)))
 
-  coarse-kept : (mode : Mode) (unmasked neg : Bool) → coarse mode unmasked neg T ≡ kept mode neg k z
+  coarse-kept : (mode : Mode) (unmaskedUE neg : Bool) → coarse mode unmaskedUE neg T ≡ kept mode neg k z
   unfolding coarse kept
-  coarse-kept mode unmasked neg =
+  coarse-kept mode unmaskedUE neg =
       let a : size T - 14 ≡ k = let l : size T ≡ suc (k + 13) = size-is T (k + 13) T-ge T-lt in omega arith in
       let b : ltb (steps mode neg T) 2048 ≡ false = le-ltb (steps mode neg T) 2048 (omega (arith, steps-ge mode neg T, T-ge, pow-add 2 k 13, pow-pos k)) in
       rw (a, ← e, b, and-false (ltb 0 T), or-zero-r)
@@ -78,14 +78,14 @@ module _ (t k T : ℕ) (hk : 1 ≤ k) (e : t ≡ place T (2 * 2 ^ k)) (lo : 2 ^ 
       ap (λ (n : ℕ). place n (2 * 2 ^ s)) e ∙ place-place T (2 * 2 ^ k) (2 ^ s) (omega (arith, pow-pos k)) (pow-pos s)
       ∙ ap (λ (d : ℕ). place T d) (sym (mul-assoc (2 ^ s) 2 (2 ^ k)) ∙ ap (λ (n : ℕ). n * 2 ^ k) (mul-comm (2 ^ s) 2) ∙ unit)
 
-  wide : (mode : Mode) (unmasked neg : Bool) → coarse mode unmasked neg T ≡ coarse mode unmasked neg (t * 2 ^ k)
-  wide mode unmasked neg = coarse-kept T (s + k - 1) z of-T z-ge z-lt mode unmasked neg ∙ sym (coarse-kept (t * 2 ^ k) (s + k - 1) z of-t z-ge z-lt mode unmasked neg)
+  wide : (mode : Mode) (unmaskedUE neg : Bool) → coarse mode unmaskedUE neg T ≡ coarse mode unmaskedUE neg (t * 2 ^ k)
+  wide mode unmaskedUE neg = coarse-kept T (s + k - 1) z of-T z-ge z-lt mode unmaskedUE neg ∙ sym (coarse-kept (t * 2 ^ k) (s + k - 1) z of-t z-ge z-lt mode unmaskedUE neg)
 
-  pub sticky-wide : (mode : Mode) (unmasked neg : Bool) (x : Magnitude) → 0 < denominator x → Placed x T → roundedHalf mode unmasked neg x ≡ roundedHalf mode unmasked neg (fraction (t * 2 ^ k) (2 ^ 27))
-  sticky-wide mode unmasked neg x hd p = bridge x T hd p mode neg unmasked ∙ wide mode unmasked neg ∙ sym (of-place mode unmasked neg (t * 2 ^ k))
+  pub sticky-wide : (mode : Mode) (unmaskedUE neg : Bool) (x : Magnitude) → 0 < denominator x → Placed x T → roundedHalf mode unmaskedUE neg x ≡ roundedHalf mode unmaskedUE neg (ratio (t * 2 ^ k) (2 ^ 27))
+  sticky-wide mode unmaskedUE neg x hd p = bridge x T hd p mode neg unmaskedUE ∙ wide mode unmaskedUE neg ∙ sym (of-place mode unmaskedUE neg (t * 2 ^ k))
 
--- ---- the shared law: of a fraction N / D, scaled by a power of two, 13 digits or more of its place t may stand for it
-module _ (mode : Mode) (unmasked neg : Bool) (N D t : ℕ) (hd : 0 < D) (ht : t ≡ place N D) where
+-- ---- the shared law: of a ratio N / D, scaled by a power of two, 13 digits or more of its place t may stand for it
+module _ (mode : Mode) (unmaskedUE neg : Bool) (N D t : ℕ) (hd : 0 < D) (ht : t ≡ place N D) where
   -- in units of 2 ^ -26 or more, a place of a place
   far : (e m j : ℕ) → m ≡ j + (e + 26) → place (N * 2 ^ e * 2 ^ 26) (D * 2 ^ m) ≡ place (t * 2 ^ e * 2 ^ 26) (2 * 2 ^ m)
   far e m j h =
@@ -101,47 +101,47 @@ module _ (mode : Mode) (unmasked neg : Bool) (N D t : ℕ) (hd : 0 < D) (ht : t 
   of-finer k =
       ht ∙ sym (place-place (N * 2 ^ k) D (2 ^ k) hd (pow-pos k) ∙ ap (λ (d : ℕ). place (N * 2 ^ k) d) (mul-comm (2 ^ k) D) ∙ place-scale N D (2 ^ k) hd (pow-pos k))
 
-  pub digits : 2 ^ 12 ≤ t → (e m : ℕ) → roundedHalf mode unmasked neg (fraction (N * 2 ^ e) (D * 2 ^ m)) ≡ roundedHalf mode unmasked neg (fraction (t * 2 ^ e) (2 * 2 ^ m))
+  pub digits : 2 ^ 12 ≤ t → (e m : ℕ) → roundedHalf mode unmaskedUE neg (ratio (N * 2 ^ e) (D * 2 ^ m)) ≡ roundedHalf mode unmaskedUE neg (ratio (t * 2 ^ e) (2 * 2 ^ m))
   digits lo e m = go (leb (e + 26) m) refl
     where
-      go : (b : Bool) → leb (e + 26) m ≡ b → roundedHalf mode unmasked neg (fraction (N * 2 ^ e) (D * 2 ^ m)) ≡ roundedHalf mode unmasked neg (fraction (t * 2 ^ e) (2 * 2 ^ m))
+      go : (b : Bool) → leb (e + 26) m ≡ b → roundedHalf mode unmaskedUE neg (ratio (N * 2 ^ e) (D * 2 ^ m)) ≡ roundedHalf mode unmaskedUE neg (ratio (t * 2 ^ e) (2 * 2 ^ m))
       go true f =
           let l : e + 26 ≤ m = leb-true _ _ f in
-          sticky-fraction mode unmasked neg (N * 2 ^ e) (D * 2 ^ m) (mul-pos hd (pow-pos m))
-          ∙ ap (λ (n : ℕ). roundedHalf mode unmasked neg (fraction n (2 ^ 27))) (far e m (m - (e + 26)) (omega arith))
-          ∙ sym (sticky-fraction mode unmasked neg (t * 2 ^ e) (2 * 2 ^ m) (omega (arith, pow-pos m)))
+          sticky-ratio mode unmaskedUE neg (N * 2 ^ e) (D * 2 ^ m) (mul-pos hd (pow-pos m))
+          ∙ ap (λ (n : ℕ). roundedHalf mode unmaskedUE neg (ratio n (2 ^ 27))) (far e m (m - (e + 26)) (omega arith))
+          ∙ sym (sticky-ratio mode unmaskedUE neg (t * 2 ^ e) (2 * 2 ^ m) (omega (arith, pow-pos m)))
       go false f =
           let l : m < e + 26 = leb-false _ _ f in
           let k : ℕ = e + 26 - m in
           let at : (n d : ℕ) → 0 < d → place (n * 2 ^ e * 2 ^ 26) (d * 2 ^ m) ≡ place (n * 2 ^ k) d = λ (n d : ℕ) (h : 0 < d).
           ap (λ (y : ℕ). place y (d * 2 ^ m)) (pow-join n e 26 refl ∙ sym (pow-join n k m (let g : k + m ≡ e + 26 = omega arith in g)))
           ∙ place-scale (n * 2 ^ k) d (2 ^ m) h (pow-pos m) in
-          sticky-fraction mode unmasked neg (N * 2 ^ e) (D * 2 ^ m) (mul-pos hd (pow-pos m))
-          ∙ ap (λ (n : ℕ). roundedHalf mode unmasked neg (fraction n (2 ^ 27))) (at N D hd)
-          ∙ of-place mode unmasked neg (place (N * 2 ^ k) D)
-          ∙ wide t k (place (N * 2 ^ k) D) (omega arith) (of-finer k) lo mode unmasked neg
-          ∙ sym (of-place mode unmasked neg (t * 2 ^ k))
-          ∙ ap (λ (n : ℕ). roundedHalf mode unmasked neg (fraction n (2 ^ 27))) (sym (at t 2 (omega arith) ∙ place-two (t * 2 ^ k)))
-          ∙ sym (sticky-fraction mode unmasked neg (t * 2 ^ e) (2 * 2 ^ m) (omega (arith, pow-pos m)))
+          sticky-ratio mode unmaskedUE neg (N * 2 ^ e) (D * 2 ^ m) (mul-pos hd (pow-pos m))
+          ∙ ap (λ (n : ℕ). roundedHalf mode unmaskedUE neg (ratio n (2 ^ 27))) (at N D hd)
+          ∙ of-place mode unmaskedUE neg (place (N * 2 ^ k) D)
+          ∙ wide t k (place (N * 2 ^ k) D) (omega arith) (of-finer k) lo mode unmaskedUE neg
+          ∙ sym (of-place mode unmaskedUE neg (t * 2 ^ k))
+          ∙ ap (λ (n : ℕ). roundedHalf mode unmaskedUE neg (ratio n (2 ^ 27))) (sym (at t 2 (omega arith) ∙ place-two (t * 2 ^ k)))
+          ∙ sym (sticky-ratio mode unmaskedUE neg (t * 2 ^ e) (2 * 2 ^ m) (omega (arith, pow-pos m)))
 
 -- ---- 13 digits packed, as the code works it out: q steps
 module _ (mode : Mode) (neg : Bool) (z k : ℕ) (lo : 2 ^ 12 ≤ z) (hi : z < 2 ^ 13) {q : ℕ} (hq : q ≡ steps mode neg z) where
-  rounds : (unmasked : Bool) → roundedHalf mode unmasked neg (fraction (z * 2 ^ k) (2 ^ 26)) ≡ kept mode neg k z
-  rounds unmasked =
+  rounds : (unmaskedUE : Bool) → roundedHalf mode unmaskedUE neg (ratio (z * 2 ^ k) (2 ^ 26)) ≡ kept mode neg k z
+  rounds unmaskedUE =
       let u : 2 ^ (k + 2) ≡ 2 * 2 ^ (k + 1) = omega (arith, pow-add 2 k 2, pow-add 2 k 1) in
       let p : place (z * 2 ^ (k + 1)) (2 ^ (k + 2)) ≡ z = ap (λ (d : ℕ). place (z * 2 ^ (k + 1)) d) u ∙ place-scale z 2 (2 ^ (k + 1)) (omega arith) (pow-pos (k + 1)) ∙ place-two z in
-      sym (rounded-scale mode unmasked neg (z * 2 ^ k) (2 ^ 26) 2 (omega arith) (omega arith))
-      ∙ ap (λ (m : ℕ). roundedHalf mode unmasked neg (fraction m (2 ^ 27))) (pow-join z k 1 refl)
-      ∙ of-place mode unmasked neg (z * 2 ^ (k + 1))
-      ∙ coarse-kept (z * 2 ^ (k + 1)) k z (sym p) lo hi mode unmasked neg
+      sym (rounded-scale mode unmaskedUE neg (z * 2 ^ k) (2 ^ 26) 2 (omega arith) (omega arith))
+      ∙ ap (λ (m : ℕ). roundedHalf mode unmaskedUE neg (ratio m (2 ^ 27))) (pow-join z k 1 refl)
+      ∙ of-place mode unmaskedUE neg (z * 2 ^ (k + 1))
+      ∙ coarse-kept (z * 2 ^ (k + 1)) k z (sym p) lo hi mode unmaskedUE neg
 
-  pub packed-over : 31744 ≤ k * 1024 + q → {o : Outcome} → o ≡ result (withSign neg (overflowFields mode neg)) (bitOr OE PE) → (unmasked : Bool) → o ≡ roundedHalf mode unmasked neg (fraction (z * 2 ^ k) (2 ^ 26))
+  pub packed-over : 31744 ≤ k * 1024 + q → {o : Outcome} → o ≡ result (withSign neg (overflowFields mode neg)) (bitOr OE PE) → (unmaskedUE : Bool) → o ≡ roundedHalf mode unmaskedUE neg (ratio (z * 2 ^ k) (2 ^ 26))
   unfolding kept
-  packed-over g ho unmasked = ho ∙ sym (rounds unmasked ∙ rw (← hq, le-leb 31744 (k * 1024 + q) g))
+  packed-over g ho unmaskedUE = ho ∙ sym (rounds unmaskedUE ∙ rw (← hq, le-leb 31744 (k * 1024 + q) g))
 
-  pub packed-fits : k * 1024 + q < 31744 → {h f : ℕ} → h ≡ withSign neg (k * 1024 + q) → f ≡ flag PE (not (eqb (z % 4) 0)) → (unmasked : Bool) → result h f ≡ roundedHalf mode unmasked neg (fraction (z * 2 ^ k) (2 ^ 26))
+  pub packed-fits : k * 1024 + q < 31744 → {h f : ℕ} → h ≡ withSign neg (k * 1024 + q) → f ≡ flag PE (not (eqb (z % 4) 0)) → (unmaskedUE : Bool) → result h f ≡ roundedHalf mode unmaskedUE neg (ratio (z * 2 ^ k) (2 ^ 26))
   unfolding kept
-  packed-fits g hh hf unmasked = sym (rounds unmasked ∙ rw (← hq, lt-leb 31744 (k * 1024 + q) g, ← hh, ← hf))
+  packed-fits g hh hf unmaskedUE = sym (rounds unmaskedUE ∙ rw (← hq, lt-leb 31744 (k * 1024 + q) g, ← hh, ← hf))
 
 -- ---- m * 2 ^ e in units of 2 ^ -57
 pub large-from : (i m e : ℕ) → 2 ^ i ≤ m → 43 ≤ i + e → 2 ^ 43 ≤ m * 2 ^ e
@@ -194,19 +194,19 @@ module _ (m e : ℕ) (fits : m < 2 ^ 64) {v : ℕ} (hv : v ≡ leadingZeros 64 m
       pub large-digits : (2 ^ 12 ≤ z) × (z < 2 ^ 13)
       large-digits = (rw z-is (place-ge (m * 2 ^ v) (2 ^ 52) (2 ^ 11) (omega arith) (omega (arith, tops .0))), rw z-is (place-lt (m * 2 ^ v) (2 ^ 52) (2 ^ 12) (omega arith) (omega (arith, tops .1))))
 
-      pub large-rounds : (mode : Mode) (neg : Bool) {o : Outcome} → ((unmasked : Bool) → o ≡ roundedHalf mode unmasked neg (fraction (z * 2 ^ (e + 20 - v)) (2 ^ 26))) → (unmasked : Bool) → o ≡ roundedHalf mode unmasked neg (fraction (m * 2 ^ e) (2 ^ 57))
-      large-rounds mode neg ho unmasked =
+      pub large-rounds : (mode : Mode) (neg : Bool) {o : Outcome} → ((unmaskedUE : Bool) → o ≡ roundedHalf mode unmaskedUE neg (ratio (z * 2 ^ (e + 20 - v)) (2 ^ 26))) → (unmaskedUE : Bool) → o ≡ roundedHalf mode unmaskedUE neg (ratio (m * 2 ^ e) (2 ^ 57))
+      large-rounds mode neg ho unmaskedUE =
           let k : ℕ = e + 20 - v in
           let f : m * 2 ^ v * 2 ^ k ≡ m * 2 ^ e * 2 ^ 20 = pow-join m v k (let g : v + k ≡ e + 20 = omega (arith, zeros-le) in g) ∙ sym (pow-join m e 20 refl) in
-          ho unmasked ∙ sym (digits mode unmasked neg (m * 2 ^ v) (2 ^ 52) z (omega arith) z-is (large-digits .0) k 25)
-          ∙ ap (λ (n : ℕ). roundedHalf mode unmasked neg (fraction n (2 ^ 77))) f
-          ∙ rounded-scale mode unmasked neg (m * 2 ^ e) (2 ^ 57) (2 ^ 20) (omega arith) (omega arith)
+          ho unmaskedUE ∙ sym (digits mode unmaskedUE neg (m * 2 ^ v) (2 ^ 52) z (omega arith) z-is (large-digits .0) k 25)
+          ∙ ap (λ (n : ℕ). roundedHalf mode unmaskedUE neg (ratio n (2 ^ 77))) f
+          ∙ rounded-scale mode unmaskedUE neg (m * 2 ^ e) (2 ^ 57) (2 ^ 20) (omega arith) (omega arith)
 
 -- where the half may be subnormal, by its place
-pub small-rounds : (mode : Mode) (unmasked neg : Bool) (m e : ℕ) → e < 31 → {p : ℕ} {o : Outcome} → p ≡ place m (2 ^ (31 - e)) → o ≡ roundedHalf mode unmasked neg (fraction p (2 ^ 27)) → o ≡ roundedHalf mode unmasked neg (fraction (m * 2 ^ e) (2 ^ 57))
-small-rounds mode unmasked neg m e l hp h =
+pub small-rounds : (mode : Mode) (unmaskedUE neg : Bool) (m e : ℕ) → e < 31 → {p : ℕ} {o : Outcome} → p ≡ place m (2 ^ (31 - e)) → o ≡ roundedHalf mode unmaskedUE neg (ratio p (2 ^ 27)) → o ≡ roundedHalf mode unmaskedUE neg (ratio (m * 2 ^ e) (2 ^ 57))
+small-rounds mode unmaskedUE neg m e l hp h =
     let d : 2 ^ (31 - e + 26) * 2 ^ e ≡ 2 ^ 57 = sym (pow-add 2 (31 - e + 26) e) ∙ ap (λ (n : ℕ). 2 ^ n) (let f : 31 - e + 26 + e ≡ 57 = omega arith in f) in
-    h ∙ ap (λ (n : ℕ). roundedHalf mode unmasked neg (fraction n (2 ^ 27))) hp
-    ∙ sym (sticky-shift mode unmasked neg m (31 - e))
-    ∙ sym (rounded-scale mode unmasked neg m (2 ^ (31 - e + 26)) (2 ^ e) (pow-pos (31 - e + 26)) (pow-pos e))
-    ∙ ap (λ (n : ℕ). roundedHalf mode unmasked neg (fraction (m * 2 ^ e) n)) d
+    h ∙ ap (λ (n : ℕ). roundedHalf mode unmaskedUE neg (ratio n (2 ^ 27))) hp
+    ∙ sym (sticky-shift mode unmaskedUE neg m (31 - e))
+    ∙ sym (rounded-scale mode unmaskedUE neg m (2 ^ (31 - e + 26)) (2 ^ e) (pow-pos (31 - e + 26)) (pow-pos e))
+    ∙ ap (λ (n : ℕ). roundedHalf mode unmaskedUE neg (ratio (m * 2 ^ e) n)) d

@@ -10,7 +10,7 @@ use lib.Dec.{ltb, eqb}
 use lib.Pow.{shl-exact}
 use borrow.Author.Tests.{ltb-true, ltb-false, eq-eqb, ne-eqb}
 use Rattle.half.specs.Format.{exponentField, fractionField, significand, isFinite, isSubnormal, isZero, negative, units}
-use Rattle.half.specs.Exact.{fraction, rootOf}
+use Rattle.half.specs.Exact.{ratio, rootOf}
 use Rattle.half.specs.Round.{result, roundedHalf}
 use Rattle.half.specs.Operations.{unlike, exactSum, halfAdd, halfMultiply, halfDivide, halfRoot, halfMultiplyAdd}
 use Rattle.half.specs.Work.{isNormal}
@@ -82,23 +82,23 @@ module _ (h : ℕ) (n : isNormal h ≡ true) where
 plain : (o : Outcome) → result (o .half) (bitOr 0 (o .flags)) ≡ o
 plain o = ap (λ (f : ℕ). result (o .half) f) (or-zero-l (o .flags))
 
-pub normal-root : (mode : Mode) (unmasked : Bool) (a : ℕ) → isNormal a ≡ true → negative a ≡ false → halfRoot mode unmasked a ≡ roundedHalf mode unmasked false (rootOf (units a) (2 ^ 24))
-normal-root mode unmasked a na s = finite-root a (rw (normal-finite a na, s, normal-zero a na)) mode unmasked ∙ rw (no-denormal a na) (plain (roundedHalf mode unmasked false (rootOf (units a) (2 ^ 24))))
+pub normal-root : (mode : Mode) (unmaskedUE : Bool) (a : ℕ) → isNormal a ≡ true → negative a ≡ false → halfRoot mode unmaskedUE a ≡ roundedHalf mode unmaskedUE false (rootOf (units a) (2 ^ 24))
+normal-root mode unmaskedUE a na s = finite-root a (rw (normal-finite a na, s, normal-zero a na)) mode unmaskedUE ∙ rw (no-denormal a na) (plain (roundedHalf mode unmaskedUE false (rootOf (units a) (2 ^ 24))))
 
-module _ (mode : Mode) (unmasked : Bool) (a b : ℕ) (na : isNormal a ≡ true) (nb : isNormal b ≡ true) where
-  pub normal-add : halfAdd mode unmasked a b ≡ exactSum mode unmasked (negative a) (units a) (negative b) (units b) (2 ^ 24)
-  normal-add = finite-add mode unmasked a b (rw (normal-finite a na, normal-finite b nb)) ∙ rw (no-denormal a na, no-denormal b nb) (plain (exactSum mode unmasked (negative a) (units a) (negative b) (units b) (2 ^ 24)))
+module _ (mode : Mode) (unmaskedUE : Bool) (a b : ℕ) (na : isNormal a ≡ true) (nb : isNormal b ≡ true) where
+  pub normal-add : halfAdd mode unmaskedUE a b ≡ exactSum mode unmaskedUE (negative a) (units a) (negative b) (units b) (2 ^ 24)
+  normal-add = finite-add mode unmaskedUE a b (rw (normal-finite a na, normal-finite b nb)) ∙ rw (no-denormal a na, no-denormal b nb) (plain (exactSum mode unmaskedUE (negative a) (units a) (negative b) (units b) (2 ^ 24)))
 
-  normal-multiply : halfMultiply mode unmasked a b ≡ roundedHalf mode unmasked (unlike a b) (fraction (units a * units b) (2 ^ 48))
-  normal-multiply = finite-multiply mode unmasked a b (rw (normal-finite a na, normal-finite b nb)) ∙ rw (no-denormal a na, no-denormal b nb) (plain (roundedHalf mode unmasked (unlike a b) (fraction (units a * units b) (2 ^ 48))))
+  normal-multiply : halfMultiply mode unmaskedUE a b ≡ roundedHalf mode unmaskedUE (unlike a b) (ratio (units a * units b) (2 ^ 48))
+  normal-multiply = finite-multiply mode unmaskedUE a b (rw (normal-finite a na, normal-finite b nb)) ∙ rw (no-denormal a na, no-denormal b nb) (plain (roundedHalf mode unmaskedUE (unlike a b) (ratio (units a * units b) (2 ^ 48))))
 
-  pub normal-divide : halfDivide mode unmasked a b ≡ roundedHalf mode unmasked (unlike a b) (fraction (units a) (units b))
-  normal-divide = finite-divide mode unmasked a b (rw (normal-finite a na, normal-finite b nb, normal-zero b nb)) ∙ rw (no-denormal a na, no-denormal b nb) (plain (roundedHalf mode unmasked (unlike a b) (fraction (units a) (units b))))
+  pub normal-divide : halfDivide mode unmaskedUE a b ≡ roundedHalf mode unmaskedUE (unlike a b) (ratio (units a) (units b))
+  normal-divide = finite-divide mode unmaskedUE a b (rw (normal-finite a na, normal-finite b nb, normal-zero b nb)) ∙ rw (no-denormal a na, no-denormal b nb) (plain (roundedHalf mode unmaskedUE (unlike a b) (ratio (units a) (units b))))
 
-  pub normal-multiply-add : (c : ℕ) → isNormal c ≡ true → halfMultiplyAdd mode unmasked a b c ≡ exactSum mode unmasked (unlike a b) (units a * units b) (negative c) (units c * 2 ^ 24) (2 ^ 48)
+  pub normal-multiply-add : (c : ℕ) → isNormal c ≡ true → halfMultiplyAdd mode unmaskedUE a b c ≡ exactSum mode unmaskedUE (unlike a b) (units a * units b) (negative c) (units c * 2 ^ 24) (2 ^ 48)
   normal-multiply-add c nc =
-      finite-multiply-add mode unmasked a b c (rw (normal-finite a na, normal-finite b nb, normal-finite c nc))
-      ∙ rw (no-denormal a na, no-denormal b nb, no-denormal c nc) (plain (exactSum mode unmasked (unlike a b) (units a * units b) (negative c) (units c * 2 ^ 24) (2 ^ 48)))
+      finite-multiply-add mode unmaskedUE a b c (rw (normal-finite a na, normal-finite b nb, normal-finite c nc))
+      ∙ rw (no-denormal a na, no-denormal b nb, no-denormal c nc) (plain (exactSum mode unmaskedUE (unlike a b) (units a * units b) (negative c) (units c * 2 ^ 24) (2 ^ 48)))
 
 -- ---- products
 pub product-digits : (x y : ℕ) → 1024 ≤ x → x < 2048 → 1024 ≤ y → y < 2048 → (2 ^ 20 ≤ x * y) × (x * y < 2 ^ 22)
@@ -113,7 +113,7 @@ product-units a b na nb {p} {i} {j} hp hi hj =
     let L : ℕ = lift a + lift b in
     sym (pow-join p L 9 (let f : L + 9 ≡ i + j + 7 = omega (arith, normal-ge a na, normal-ge b nb) in f)) ∙ ap (λ (m : ℕ). m * 2 ^ L * 2 ^ 9) hp ∙ ap (λ (m : ℕ). m * 2 ^ 9) (sym (joined a b refl refl))
 
-pub product-rounds : (mode : Mode) (unmasked : Bool) (a b : ℕ) → isNormal a ≡ true → isNormal b ≡ true → {p i j : ℕ} {neg : Bool} {o : Outcome} → p ≡ significand a * significand b → i ≡ exponentField a → j ≡ exponentField b → neg ≡ unlike a b
-    → o ≡ roundedHalf mode unmasked neg (fraction (p * 2 ^ (i + j + 7)) (2 ^ 57)) → o ≡ halfMultiply mode unmasked a b
-product-rounds mode unmasked a b na nb hp hi hj hn h =
-    h ∙ rw (hn, product-units a b na nb hp hi hj) (rounded-scale mode unmasked (unlike a b) (units a * units b) (2 ^ 48) (2 ^ 9) (omega arith) (omega arith) ∙ sym (normal-multiply mode unmasked a b na nb))
+pub product-rounds : (mode : Mode) (unmaskedUE : Bool) (a b : ℕ) → isNormal a ≡ true → isNormal b ≡ true → {p i j : ℕ} {neg : Bool} {o : Outcome} → p ≡ significand a * significand b → i ≡ exponentField a → j ≡ exponentField b → neg ≡ unlike a b
+    → o ≡ roundedHalf mode unmaskedUE neg (ratio (p * 2 ^ (i + j + 7)) (2 ^ 57)) → o ≡ halfMultiply mode unmaskedUE a b
+product-rounds mode unmaskedUE a b na nb hp hi hj hn h =
+    h ∙ rw (hn, product-units a b na nb hp hi hj) (rounded-scale mode unmaskedUE (unlike a b) (units a * units b) (2 ^ 48) (2 ^ 9) (omega arith) (omega arith) ∙ sym (normal-multiply mode unmaskedUE a b na nb))

@@ -133,7 +133,7 @@ pub place-ge : (n d c : ℕ) → 0 < d → c * d ≤ n → 2 * c ≤ place n d
 unfolding place
 place-ge n d c hd h = let l : c ≤ n / d = le-div-iff-mul-le hd .1 h in omega arith
 
--- a place compares with whole numbers as the fraction does
+-- a place compares with whole numbers as the ratio does
 pub place-cut : (N d c : ℕ) → 0 < d → compare N (c * d) ≡ compare (place N d) (2 * c)
 unfolding place
 place-cut N d c hd = go (compare N (c * d)) (cmp N (c * d))

@@ -8,7 +8,7 @@ use lib.Pow.{pow-pos, pow-add, pow-mono}
 use lib.Ieee.{size}
 use lib.Ieee.Digits.{size-le}
 use Rattle.half.specs.Format.{exponentField, significand, isFinite, isZero, units}
-use Rattle.half.specs.Exact.{fraction, rootOf, against}
+use Rattle.half.specs.Exact.{ratio, rootOf, against}
 use Rattle.half.specs.Round.{roundedHalf}
 use Rattle.half.specs.Work.{place, rootPlace, isNormal}
 use Rattle.half.specs.declared.Mode.{Mode}
@@ -40,17 +40,17 @@ module _ {n N k z : ℕ} (r : Radicand n N k z) where
   pub root-digits : (2 ^ 12 ≤ z) × (z < 2 ^ 13)
   root-digits = (rw (r .z-is) (root-large 12 N (r .N-from) (omega (arith, r .N-to))), root-place-lt 12 N (r .N-to) (r .z-is))
 
-  sticky-root : (mode : Mode) (unmasked neg : Bool) → roundedHalf mode unmasked neg (rootOf n (2 ^ 24)) ≡ roundedHalf mode unmasked neg (fraction (z * 2 ^ (k + 1)) (2 ^ 27))
-  sticky-root mode unmasked neg =
+  sticky-root : (mode : Mode) (unmaskedUE neg : Bool) → roundedHalf mode unmaskedUE neg (rootOf n (2 ^ 24)) ≡ roundedHalf mode unmaskedUE neg (ratio (z * 2 ^ (k + 1)) (2 ^ 27))
+  sticky-root mode unmaskedUE neg =
       let c : rootPlace 12 N ≡ place (rootPlace 34 (n * 2 ^ 28)) (2 * 2 ^ (k + 1)) =
       sym (rw (r .square) (root-place-cut 34 12 N (2 ^ (k + 1)) (pow-pos (k + 1)) (rw (← (r .square)) (omega (arith, r .n-lt))) (omega (arith, r .N-to)))) in
-      sticky-wide z (k + 1) (rootPlace 34 (n * 2 ^ 28)) (omega arith) (r .z-is ∙ c) (root-digits .0) mode unmasked neg (rootOf n (2 ^ 24)) (omega arith) (root-placed n (r .n-lt))
+      sticky-wide z (k + 1) (rootPlace 34 (n * 2 ^ 28)) (omega arith) (r .z-is ∙ c) (root-digits .0) mode unmaskedUE neg (rootOf n (2 ^ 24)) (omega arith) (root-placed n (r .n-lt))
 
-  pub root-rounds : (mode : Mode) (neg : Bool) {o : Outcome} → ((unmasked : Bool) → o ≡ roundedHalf mode unmasked neg (fraction (z * 2 ^ k) (2 ^ 26))) → (unmasked : Bool) → o ≡ roundedHalf mode unmasked neg (rootOf n (2 ^ 24))
-  root-rounds mode neg h unmasked =
-      h unmasked ∙ sym (rounded-scale mode unmasked neg (z * 2 ^ k) (2 ^ 26) 2 (omega arith) (omega arith))
-      ∙ ap (λ (m : ℕ). roundedHalf mode unmasked neg (fraction m (2 ^ 27))) (pow-join z k 1 refl)
-      ∙ sym (sticky-root mode unmasked neg)
+  pub root-rounds : (mode : Mode) (neg : Bool) {o : Outcome} → ((unmaskedUE : Bool) → o ≡ roundedHalf mode unmaskedUE neg (ratio (z * 2 ^ k) (2 ^ 26))) → (unmaskedUE : Bool) → o ≡ roundedHalf mode unmaskedUE neg (rootOf n (2 ^ 24))
+  root-rounds mode neg h unmaskedUE =
+      h unmaskedUE ∙ sym (rounded-scale mode unmaskedUE neg (z * 2 ^ k) (2 ^ 26) 2 (omega arith) (omega arith))
+      ∙ ap (λ (m : ℕ). roundedHalf mode unmaskedUE neg (ratio m (2 ^ 27))) (pow-join z k 1 refl)
+      ∙ sym (sticky-root mode unmaskedUE neg)
 
 -- ---- the radicand of any finite half above 0, by half the exponent of its highest digit
 module _ (a x j : ℕ) (hx : x ≡ units a) (hf : isFinite a ≡ true) (hz : isZero a ≡ false) (hj : j ≡ (size x - 1) / 2) where

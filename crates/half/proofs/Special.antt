@@ -7,7 +7,8 @@ use native.Mathlib.Omega.{arith}
 use lib.Bits.{or-zero-r, xor-zero-r, xor-shr, xor-mod}
 use Rattle.half.specs.Format.{exponentField, fractionField, isFinite, isInfinite, isNan, isSubnormal, isZero, negative, withSign, infinity, negated}
 use Rattle.half.specs.Round.{DE, ZE, flag, result}
-use Rattle.half.specs.Operations.{some, nanResult, invalid, unlike, halfAdd, halfSubtract, halfMultiply, halfDivide, halfRoot, halfMultiplyAdd}
+use Rattle.lists.specs.Lists.{some}
+use Rattle.half.specs.Operations.{nanResult, invalid, unlike, halfAdd, halfSubtract, halfMultiply, halfDivide, halfRoot, halfMultiplyAdd}
 use Rattle.half.specs.declared.Mode.{Mode}
 use Rattle.half.specs.declared.Outcome.{Outcome}
 use Rattle.half.proofs.Compare.{or-left, or-right}
@@ -29,11 +30,11 @@ two-denormals a b e = rw (← again (isSubnormal b)) (sym e)
 exponent-negated : (h : ℕ) → exponentField (negated h) ≡ exponentField h
 exponent-negated h = ap (λ (n : ℕ). n % 32) (xor-shr h 0x8000 10) ∙ xor-mod (h / 1024) 32 5 ∙ xor-zero-r (h / 1024 % 32)
 
-fraction-negated : (h : ℕ) → fractionField (negated h) ≡ fractionField h
-fraction-negated h = xor-mod h 0x8000 10 ∙ xor-zero-r (h % 1024)
+ratio-negated : (h : ℕ) → fractionField (negated h) ≡ fractionField h
+ratio-negated h = xor-mod h 0x8000 10 ∙ xor-zero-r (h % 1024)
 
 nan-negated : (h : ℕ) → isNan (negated h) ≡ isNan h
-nan-negated h = rw (exponent-negated h, fraction-negated h)
+nan-negated h = rw (exponent-negated h, ratio-negated h)
 
 -- where one is not finite and none is a NaN, one is an infinity
 pub some-infinite : (a b c : ℕ) → (isFinite a && (isFinite b && isFinite c)) ≡ false → some isNan (a ∷ b ∷ c ∷ []) ≡ false → (isInfinite a || (isInfinite b || isInfinite c)) ≡ true
@@ -72,74 +73,74 @@ two-infinite a b f n = sym (ap (λ (p : Bool). isInfinite a || p) (or-same (isIn
     or-same false = refl
 
 -- ---- sums
-module _ (a b : ℕ) (mode : Mode) (unmasked : Bool) where
-  pub add-nan : some isNan (a ∷ b ∷ []) ≡ true → {o : Outcome} → o ≡ nanResult (a ∷ b ∷ b ∷ []) → o ≡ halfAdd mode unmasked a b
+module _ (a b : ℕ) (mode : Mode) (unmaskedUE : Bool) where
+  pub add-nan : some isNan (a ∷ b ∷ []) ≡ true → {o : Outcome} → o ≡ nanResult (a ∷ b ∷ b ∷ []) → o ≡ halfAdd mode unmaskedUE a b
   unfolding halfAdd
   add-nan n h = rw n (h ∙ nan-again a b)
 
   -- a difference is a sum with the sign of b turned, but that of a NaN: it comes back as it is
-  pub subtract-adds : {c : ℕ} {o : Outcome} → c ≡ cond (isNan b) b (negated b) → o ≡ halfAdd mode unmasked a c → o ≡ halfSubtract mode unmasked a b
+  pub subtract-adds : {c : ℕ} {o : Outcome} → c ≡ cond (isNan b) b (negated b) → o ≡ halfAdd mode unmaskedUE a c → o ≡ halfSubtract mode unmaskedUE a b
   unfolding halfAdd halfSubtract
   subtract-adds {c} {o} hc h = go (isNan a) (isNan b) refl refl hc
     where
-      go : (p q : Bool) → isNan a ≡ p → isNan b ≡ q → c ≡ cond q b (negated b) → o ≡ halfSubtract mode unmasked a b
+      go : (p q : Bool) → isNan a ≡ p → isNan b ≡ q → c ≡ cond q b (negated b) → o ≡ halfSubtract mode unmaskedUE a b
       go true true e f g = let k : c ≡ b = g in h ∙ rw (k, e, f)
       go false true e f g = let k : c ≡ b = g in h ∙ rw (k, e, f)
       go true false e f g = let k : c ≡ negated b = g in h ∙ rw (k, e, nan-negated b ∙ f, f)
       go false false e f g = let k : c ≡ negated b = g in h ∙ rw (k, e, f)
 
   module _ (n : some isNan (a ∷ b ∷ []) ≡ false) where
-    pub add-invalid : (isInfinite a && isInfinite b && unlike a b) ≡ true → {o : Outcome} → o ≡ invalid → o ≡ halfAdd mode unmasked a b
+    pub add-invalid : (isInfinite a && isInfinite b && unlike a b) ≡ true → {o : Outcome} → o ≡ invalid → o ≡ halfAdd mode unmaskedUE a b
     unfolding halfAdd
     add-invalid i h = rw (n, i) h
 
     module _ (v : (isInfinite a && isInfinite b && unlike a b) ≡ false) {de : ℕ} (d : de ≡ flag DE (some isSubnormal (a ∷ b ∷ b ∷ []))) where
-      pub add-left : isInfinite a ≡ true → result a de ≡ halfAdd mode unmasked a b
+      pub add-left : isInfinite a ≡ true → result a de ≡ halfAdd mode unmaskedUE a b
       unfolding halfAdd
       add-left i = rw (n, v, i, or-zero-r, two-denormals a b d)
 
-      pub add-right : isInfinite a ≡ false → isInfinite b ≡ true → result b de ≡ halfAdd mode unmasked a b
+      pub add-right : isInfinite a ≡ false → isInfinite b ≡ true → result b de ≡ halfAdd mode unmaskedUE a b
       unfolding halfAdd
       add-right i j = rw (n, v, i, j, or-zero-r, two-denormals a b d)
 
 -- ---- products
-module _ (a b : ℕ) (mode : Mode) (unmasked : Bool) where
-  pub multiply-nan : some isNan (a ∷ b ∷ []) ≡ true → {o : Outcome} → o ≡ nanResult (a ∷ b ∷ b ∷ []) → o ≡ halfMultiply mode unmasked a b
+module _ (a b : ℕ) (mode : Mode) (unmaskedUE : Bool) where
+  pub multiply-nan : some isNan (a ∷ b ∷ []) ≡ true → {o : Outcome} → o ≡ nanResult (a ∷ b ∷ b ∷ []) → o ≡ halfMultiply mode unmaskedUE a b
   unfolding halfMultiply
   multiply-nan n h = rw n (h ∙ nan-again a b)
 
   module _ (n : some isNan (a ∷ b ∷ []) ≡ false) where
-    pub multiply-invalid : (isZero a && isInfinite b || isInfinite a && isZero b) ≡ true → {o : Outcome} → o ≡ invalid → o ≡ halfMultiply mode unmasked a b
+    pub multiply-invalid : (isZero a && isInfinite b || isInfinite a && isZero b) ≡ true → {o : Outcome} → o ≡ invalid → o ≡ halfMultiply mode unmaskedUE a b
     unfolding halfMultiply
     multiply-invalid i h = rw (n, i) h
 
     pub multiply-infinite : (isZero a && isInfinite b || isInfinite a && isZero b) ≡ false → (isInfinite a || isInfinite b) ≡ true
-        → {de h : ℕ} → de ≡ flag DE (some isSubnormal (a ∷ b ∷ b ∷ [])) → h ≡ infinity (unlike a b) → result h de ≡ halfMultiply mode unmasked a b
+        → {de h : ℕ} → de ≡ flag DE (some isSubnormal (a ∷ b ∷ b ∷ [])) → h ≡ infinity (unlike a b) → result h de ≡ halfMultiply mode unmaskedUE a b
     unfolding halfMultiply
     multiply-infinite v i d h = rw (n, v, i, or-zero-r, two-denormals a b d, ← h)
 
 -- ---- quotients
-module _ (a b : ℕ) (mode : Mode) (unmasked : Bool) where
-  pub divide-nan : some isNan (a ∷ b ∷ []) ≡ true → {o : Outcome} → o ≡ nanResult (a ∷ b ∷ b ∷ []) → o ≡ halfDivide mode unmasked a b
+module _ (a b : ℕ) (mode : Mode) (unmaskedUE : Bool) where
+  pub divide-nan : some isNan (a ∷ b ∷ []) ≡ true → {o : Outcome} → o ≡ nanResult (a ∷ b ∷ b ∷ []) → o ≡ halfDivide mode unmaskedUE a b
   unfolding halfDivide
   divide-nan n h = rw n (h ∙ nan-again a b)
 
   module _ (n : some isNan (a ∷ b ∷ []) ≡ false) where
-    pub divide-invalid : (isZero a && isZero b || isInfinite a && isInfinite b) ≡ true → {o : Outcome} → o ≡ invalid → o ≡ halfDivide mode unmasked a b
+    pub divide-invalid : (isZero a && isZero b || isInfinite a && isInfinite b) ≡ true → {o : Outcome} → o ≡ invalid → o ≡ halfDivide mode unmaskedUE a b
     unfolding halfDivide
     divide-invalid i h = rw (n, i) h
 
     module _ (v : (isZero a && isZero b || isInfinite a && isInfinite b) ≡ false) where
-      pub divide-by-zero : (isFinite a && not (isZero a) && isZero b) ≡ true → {h : ℕ} → h ≡ infinity (unlike a b) → result h ZE ≡ halfDivide mode unmasked a b
+      pub divide-by-zero : (isFinite a && not (isZero a) && isZero b) ≡ true → {h : ℕ} → h ≡ infinity (unlike a b) → result h ZE ≡ halfDivide mode unmaskedUE a b
       unfolding halfDivide
       divide-by-zero z h = rw (n, v, z, ← h)
 
       module _ (z : (isFinite a && not (isZero a) && isZero b) ≡ false) {de h : ℕ} (d : de ≡ flag DE (some isSubnormal (a ∷ b ∷ b ∷ []))) where
-        pub divide-infinite : isInfinite a ≡ true → h ≡ infinity (unlike a b) → result h de ≡ halfDivide mode unmasked a b
+        pub divide-infinite : isInfinite a ≡ true → h ≡ infinity (unlike a b) → result h de ≡ halfDivide mode unmaskedUE a b
         unfolding halfDivide
         divide-infinite i e = rw (n, v, z, i, or-zero-r, two-denormals a b d, ← e)
 
-        pub divide-by-infinite : isInfinite a ≡ false → isInfinite b ≡ true → h ≡ withSign (unlike a b) 0 → result h de ≡ halfDivide mode unmasked a b
+        pub divide-by-infinite : isInfinite a ≡ false → isInfinite b ≡ true → h ≡ withSign (unlike a b) 0 → result h de ≡ halfDivide mode unmaskedUE a b
         unfolding halfDivide
         divide-by-infinite i j e = rw (n, v, z, i, j, or-zero-r, two-denormals a b d, ← e)
 
@@ -159,17 +160,17 @@ divisor-infinite a b f n v z i = go (isFinite a) (isFinite b) (isZero a) (isZero
     go true true false true e g k l m = cc
 
 -- ---- roots
-module _ (a : ℕ) (mode : Mode) (unmasked : Bool) where
-  pub root-nan : some isNan (a ∷ []) ≡ true → {o : Outcome} → o ≡ nanResult (a ∷ a ∷ a ∷ []) → o ≡ halfRoot mode unmasked a
+module _ (a : ℕ) (mode : Mode) (unmaskedUE : Bool) where
+  pub root-nan : some isNan (a ∷ []) ≡ true → {o : Outcome} → o ≡ nanResult (a ∷ a ∷ a ∷ []) → o ≡ halfRoot mode unmaskedUE a
   unfolding halfRoot
   root-nan n h = rw n (h ∙ nan-thrice a)
 
   module _ (n : some isNan (a ∷ []) ≡ false) where
-    pub root-invalid : (negative a && not (isZero a)) ≡ true → {o : Outcome} → o ≡ invalid → o ≡ halfRoot mode unmasked a
+    pub root-invalid : (negative a && not (isZero a)) ≡ true → {o : Outcome} → o ≡ invalid → o ≡ halfRoot mode unmaskedUE a
     unfolding halfRoot
     root-invalid i h = rw (n, i) h
 
-    pub root-itself : (negative a && not (isZero a)) ≡ false → (isZero a || isInfinite a) ≡ true → {de : ℕ} → de ≡ flag DE (some isSubnormal (a ∷ a ∷ a ∷ [])) → result a de ≡ halfRoot mode unmasked a
+    pub root-itself : (negative a && not (isZero a)) ≡ false → (isZero a || isInfinite a) ≡ true → {de : ℕ} → de ≡ flag DE (some isSubnormal (a ∷ a ∷ a ∷ [])) → result a de ≡ halfRoot mode unmaskedUE a
     unfolding halfRoot
     root-itself v i d = rw (n, v, i, or-zero-r, ← again (isSubnormal a), two-denormals a a d)
 
@@ -184,26 +185,26 @@ radicand-itself a f n v = go (isFinite a) (negative a) (isZero a) refl f v
     go true false false e g w = cc
 
 -- ---- fused
-module _ (a b c : ℕ) (mode : Mode) (unmasked : Bool) where
-  pub fused-nan : some isNan (a ∷ b ∷ c ∷ []) ≡ true → {o : Outcome} → o ≡ nanResult (a ∷ b ∷ c ∷ []) → o ≡ halfMultiplyAdd mode unmasked a b c
+module _ (a b c : ℕ) (mode : Mode) (unmaskedUE : Bool) where
+  pub fused-nan : some isNan (a ∷ b ∷ c ∷ []) ≡ true → {o : Outcome} → o ≡ nanResult (a ∷ b ∷ c ∷ []) → o ≡ halfMultiplyAdd mode unmaskedUE a b c
   unfolding halfMultiplyAdd
   fused-nan n h = rw n h
 
   module _ (n : some isNan (a ∷ b ∷ c ∷ []) ≡ false) where
-    pub fused-invalid : (isZero a && isInfinite b || isInfinite a && isZero b) ≡ true → {o : Outcome} → o ≡ invalid → o ≡ halfMultiplyAdd mode unmasked a b c
+    pub fused-invalid : (isZero a && isInfinite b || isInfinite a && isZero b) ≡ true → {o : Outcome} → o ≡ invalid → o ≡ halfMultiplyAdd mode unmaskedUE a b c
     unfolding halfMultiplyAdd
     fused-invalid i h = rw (n, i) h
 
     module _ (v : (isZero a && isInfinite b || isInfinite a && isZero b) ≡ false) where
-      pub fused-cancels : ((isInfinite a || isInfinite b) && isInfinite c && not (Bool·beq (unlike a b) (negative c))) ≡ true → {o : Outcome} → o ≡ invalid → o ≡ halfMultiplyAdd mode unmasked a b c
+      pub fused-cancels : ((isInfinite a || isInfinite b) && isInfinite c && not (Bool·beq (unlike a b) (negative c))) ≡ true → {o : Outcome} → o ≡ invalid → o ≡ halfMultiplyAdd mode unmaskedUE a b c
       unfolding halfMultiplyAdd
       fused-cancels i h = rw (n, v, i) h
 
       module _ (w : ((isInfinite a || isInfinite b) && isInfinite c && not (Bool·beq (unlike a b) (negative c))) ≡ false) {de : ℕ} (d : de ≡ flag DE (some isSubnormal (a ∷ b ∷ c ∷ []))) where
-        pub fused-infinite : (isInfinite a || isInfinite b) ≡ true → {h : ℕ} → h ≡ infinity (unlike a b) → result h de ≡ halfMultiplyAdd mode unmasked a b c
+        pub fused-infinite : (isInfinite a || isInfinite b) ≡ true → {h : ℕ} → h ≡ infinity (unlike a b) → result h de ≡ halfMultiplyAdd mode unmaskedUE a b c
         unfolding halfMultiplyAdd
         fused-infinite i h = rw (n, v, w, i, or-zero-r, ← d, ← h)
 
-        pub fused-addend : (isInfinite a || isInfinite b) ≡ false → isInfinite c ≡ true → result c de ≡ halfMultiplyAdd mode unmasked a b c
+        pub fused-addend : (isInfinite a || isInfinite b) ≡ false → isInfinite c ≡ true → result c de ≡ halfMultiplyAdd mode unmaskedUE a b c
         unfolding halfMultiplyAdd
         fused-addend i j = rw (n, v, w, i, j, or-zero-r, ← d)

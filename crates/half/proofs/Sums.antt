@@ -10,9 +10,10 @@ use lib.Dec.{ltb, leb}
 use lib.Pow.{pow-pos, pow-mono}
 use borrow.Author.Tests.{lt-ltb, le-ltb, ltb-true, ltb-false, leb-true, leb-false}
 use Rattle.half.specs.Format.{exponentField, significand, isSubnormal, negative, withSign, units}
-use Rattle.half.specs.Exact.{fraction}
+use Rattle.half.specs.Exact.{ratio}
 use Rattle.half.specs.Round.{DE, flag, result, roundedHalf}
-use Rattle.half.specs.Operations.{some, cancelled, withDenormals, unlike, exactSum, halfAdd, halfMultiplyAdd}
+use Rattle.lists.specs.Lists.{some}
+use Rattle.half.specs.Operations.{cancelled, withDenormals, unlike, exactSum, halfAdd, halfMultiplyAdd}
 use Rattle.half.specs.Work.{place, isNormal, sumMagnitude, sumSign, Summed}
 use Rattle.half.specs.declared.Mode.{Mode}
 use Rattle.half.specs.declared.Outcome.{Outcome}
@@ -39,34 +40,34 @@ module _ (x y : ℕ) {l s : ℕ} (hl : l ≡ cond (ltb x y) y x) (hs : s ≡ con
   both = ordered (ltb x y) refl hl hs
 
 -- ---- the magnitude of a sum, where it is not 0, rounds as the sum does
-sum-rounded : (mode : Mode) (unmasked sx : Bool) (x : ℕ) (sy : Bool) (y d : ℕ) → 0 < sumMagnitude (Bool·beq sx sy) x y
-    → roundedHalf mode unmasked (sumSign sx x sy y) (fraction (sumMagnitude (Bool·beq sx sy) x y) d) ≡ exactSum mode unmasked sx x sy y d
+sum-rounded : (mode : Mode) (unmaskedUE sx : Bool) (x : ℕ) (sy : Bool) (y d : ℕ) → 0 < sumMagnitude (Bool·beq sx sy) x y
+    → roundedHalf mode unmaskedUE (sumSign sx x sy y) (ratio (sumMagnitude (Bool·beq sx sy) x y) d) ≡ exactSum mode unmaskedUE sx x sy y d
 unfolding exactSum
-sum-rounded mode unmasked sx x sy y d n = go (Bool·beq sx sy) (ltb x y) refl refl n
+sum-rounded mode unmaskedUE sx x sy y d n = go (Bool·beq sx sy) (ltb x y) refl refl n
   where
     go : (l b : Bool) → Bool·beq sx sy ≡ l → ltb x y ≡ b → 0 < cond l (x + y) (cond b (y - x) (x - y))
-        → roundedHalf mode unmasked (cond b sy sx) (fraction (cond l (x + y) (cond b (y - x) (x - y))) d) ≡ exactSum mode unmasked sx x sy y d
+        → roundedHalf mode unmaskedUE (cond b sy sx) (ratio (cond l (x + y) (cond b (y - x) (x - y))) d) ≡ exactSum mode unmaskedUE sx x sy y d
     go true true p q n = rw (p, beq-eq sx sy p)
     go true false p q n = rw p
     go false true p q n = let l : x < y = ltb-true _ _ q in rw (p, le-ltb y x (let g : x ≤ y = omega arith in g), q)
     go false false p q n = rw (p, lt-ltb y x (let g : y < x = omega arith in g))
 
 -- ---- ± x and ± y, in units of 2 ^ -(k + 26): m is the magnitude of the sum
-module _ (mode : Mode) (unmasked sx : Bool) (x : ℕ) (sy : Bool) (y k : ℕ) {m : ℕ} (hm : m ≡ sumMagnitude (Bool·beq sx sy) x y) where
+module _ (mode : Mode) (unmaskedUE sx : Bool) (x : ℕ) (sy : Bool) (y k : ℕ) {m : ℕ} (hm : m ≡ sumMagnitude (Bool·beq sx sy) x y) where
   -- what t rounds to, if t is the place of n
-  at : (n : ℕ) (s : Bool) {t : ℕ} {o : Outcome} → t ≡ place n (2 ^ k) → o ≡ roundedHalf mode unmasked s (fraction t (2 ^ 27)) → o ≡ roundedHalf mode unmasked s (fraction n (2 ^ (k + 26)))
-  at n s ht h = h ∙ rw ht (sym (sticky-shift mode unmasked s n k))
+  at : (n : ℕ) (s : Bool) {t : ℕ} {o : Outcome} → t ≡ place n (2 ^ k) → o ≡ roundedHalf mode unmaskedUE s (ratio t (2 ^ 27)) → o ≡ roundedHalf mode unmaskedUE s (ratio n (2 ^ (k + 26)))
+  at n s ht h = h ∙ rw ht (sym (sticky-shift mode unmaskedUE s n k))
 
   nothing : (n : ℕ) → n ≡ 0 → 0 ≡ place n (2 ^ k)
   unfolding place
   nothing n e = rw (e, zero-div (2 ^ k), zero-mod (2 ^ k)) refl
 
-  pub no-sum : m ≡ 0 → {h : ℕ} → h ≡ cond (Bool·beq sx sy) (withSign sx 0) (cancelled mode) → result h 0 ≡ exactSum mode unmasked sx x sy y (2 ^ (k + 26))
+  pub no-sum : m ≡ 0 → {h : ℕ} → h ≡ cond (Bool·beq sx sy) (withSign sx 0) (cancelled mode) → result h 0 ≡ exactSum mode unmaskedUE sx x sy y (2 ^ (k + 26))
   unfolding exactSum
   no-sum z {h} hh = go (Bool·beq sx sy) (ltb x y) refl refl hm hh
     where
-      go : (l b : Bool) → Bool·beq sx sy ≡ l → ltb x y ≡ b → m ≡ cond l (x + y) (cond b (y - x) (x - y)) → h ≡ cond l (withSign sx 0) (cancelled mode) → result h 0 ≡ exactSum mode unmasked sx x sy y (2 ^ (k + 26))
-      go true b p q em eh = rw (p, eh) (at (x + y) sx (nothing (x + y) (sym em ∙ z)) (zero-rounds mode unmasked sx))
+      go : (l b : Bool) → Bool·beq sx sy ≡ l → ltb x y ≡ b → m ≡ cond l (x + y) (cond b (y - x) (x - y)) → h ≡ cond l (withSign sx 0) (cancelled mode) → result h 0 ≡ exactSum mode unmaskedUE sx x sy y (2 ^ (k + 26))
+      go true b p q em eh = rw (p, eh) (at (x + y) sx (nothing (x + y) (sym em ∙ z)) (zero-rounds mode unmaskedUE sx))
       go false true p q em eh = let l : x < y = ltb-true _ _ q in absurd (let f : y - x ≡ 0 = sym em ∙ z in omega arith)
       go false false p q em eh =
           let l : y ≤ x = ltb-false _ _ q in
@@ -74,34 +75,34 @@ module _ (mode : Mode) (unmasked sx : Bool) (x : ℕ) (sy : Bool) (y k : ℕ) {m
           rw (p, q, le-ltb y x g, ← eh)
 
   pub summed : (m ≡ 0 → ⊥) → {t : ℕ} {neg : Bool} {o : Outcome} → neg ≡ sumSign sx x sy y → t ≡ place m (2 ^ k)
-      → o ≡ roundedHalf mode unmasked neg (fraction t (2 ^ 27)) → o ≡ exactSum mode unmasked sx x sy y (2 ^ (k + 26))
-  summed n {t} {neg} hn ht h = at m neg ht h ∙ rw (hn, hm) (sum-rounded mode unmasked sx x sy y (2 ^ (k + 26)) (let g : 0 < m = omega arith in rw (← hm) g))
+      → o ≡ roundedHalf mode unmaskedUE neg (ratio t (2 ^ 27)) → o ≡ exactSum mode unmaskedUE sx x sy y (2 ^ (k + 26))
+  summed n {t} {neg} hn ht h = at m neg ht h ∙ rw (hn, hm) (sum-rounded mode unmaskedUE sx x sy y (2 ^ (k + 26)) (let g : 0 < m = omega arith in rw (← hm) g))
 
 -- ---- the DE of two operands, of which the code hands the last in again, beside what follows
 pub beside : (a b : ℕ) {f : ℕ} {o r q : Outcome} → f ≡ flag DE (some isSubnormal (a ∷ b ∷ b ∷ [])) → r ≡ result (o .half) (bitOr f (o .flags)) → o ≡ q → r ≡ withDenormals (a ∷ b ∷ []) q
 beside a b hf hr ho = rw (← ho, ← again (isSubnormal b), ← hf) hr
 
 -- ---- a + b in units of 2 ^ -27
-pub sum-units : (mode : Mode) (unmasked : Bool) (a b : ℕ) {x y : ℕ} {sx sy : Bool} {o : Outcome} → x ≡ units a → y ≡ units b → sx ≡ negative a → sy ≡ negative b
-    → o ≡ exactSum mode unmasked sx (x * 8) sy (y * 8) (2 ^ 27) → o ≡ exactSum mode unmasked (negative a) (units a) (negative b) (units b) (2 ^ 24)
-sum-units mode unmasked a b {x} {y} {sx} {sy} hx hy hs ht h = rw (← hx, ← hy, ← hs, ← ht) (h ∙ sum-scale mode unmasked sx x sy y (2 ^ 24) 8 (omega arith) (omega arith))
+pub sum-units : (mode : Mode) (unmaskedUE : Bool) (a b : ℕ) {x y : ℕ} {sx sy : Bool} {o : Outcome} → x ≡ units a → y ≡ units b → sx ≡ negative a → sy ≡ negative b
+    → o ≡ exactSum mode unmaskedUE sx (x * 8) sy (y * 8) (2 ^ 27) → o ≡ exactSum mode unmaskedUE (negative a) (units a) (negative b) (units b) (2 ^ 24)
+sum-units mode unmaskedUE a b {x} {y} {sx} {sy} hx hy hs ht h = rw (← hx, ← hy, ← hs, ← ht) (h ∙ sum-scale mode unmaskedUE sx x sy y (2 ^ 24) 8 (omega arith) (omega arith))
 
 -- ---- a * b + c: in units of 2 ^ -27, or of 2 ^ -48
-module _ (mode : Mode) (unmasked : Bool) (a b c : ℕ) {neg sc : Bool} {n : ℕ} (hu : neg ≡ unlike a b) (hs : sc ≡ negative c) (hc : n ≡ units c) {o : Outcome} where
-  pub coarse-sum : (x : ℕ) → x * 2 ^ 21 ≡ units a * units b → o ≡ exactSum mode unmasked neg x sc (n * 8) (2 ^ 27)
-      → o ≡ exactSum mode unmasked (unlike a b) (units a * units b) (negative c) (units c * 2 ^ 24) (2 ^ 48)
+module _ (mode : Mode) (unmaskedUE : Bool) (a b c : ℕ) {neg sc : Bool} {n : ℕ} (hu : neg ≡ unlike a b) (hs : sc ≡ negative c) (hc : n ≡ units c) {o : Outcome} where
+  pub coarse-sum : (x : ℕ) → x * 2 ^ 21 ≡ units a * units b → o ≡ exactSum mode unmaskedUE neg x sc (n * 8) (2 ^ 27)
+      → o ≡ exactSum mode unmaskedUE (unlike a b) (units a * units b) (negative c) (units c * 2 ^ 24) (2 ^ 48)
   coarse-sum x hx h =
       let e : n * 8 * 2 ^ 21 ≡ n * 2 ^ 24 = omega arith in
-      rw (← hu, ← hs, ← hc, ← hx, ← e) (h ∙ sym (sum-scale mode unmasked neg x sc (n * 8) (2 ^ 27) (2 ^ 21) (omega arith) (omega arith)))
+      rw (← hu, ← hs, ← hc, ← hx, ← e) (h ∙ sym (sum-scale mode unmaskedUE neg x sc (n * 8) (2 ^ 27) (2 ^ 21) (omega arith) (omega arith)))
 
-  pub fine-sum : {x : ℕ} → x ≡ units a * units b → o ≡ exactSum mode unmasked neg x sc (n * 2 ^ 24) (2 ^ 48)
-      → o ≡ exactSum mode unmasked (unlike a b) (units a * units b) (negative c) (units c * 2 ^ 24) (2 ^ 48)
+  pub fine-sum : {x : ℕ} → x ≡ units a * units b → o ≡ exactSum mode unmaskedUE neg x sc (n * 2 ^ 24) (2 ^ 48)
+      → o ≡ exactSum mode unmaskedUE (unlike a b) (units a * units b) (negative c) (units c * 2 ^ 24) (2 ^ 48)
   fine-sum hx h = rw (← hu, ← hs, ← hc, ← hx) h
 
 -- ---- a product, from its place
-pub product-rounded : (mode : Mode) (unmasked : Bool) (a b : ℕ) {neg : Bool} {t : ℕ} {o : Outcome} → neg ≡ unlike a b → t ≡ place (units a * units b) (2 ^ 22)
-    → o ≡ roundedHalf mode unmasked neg (fraction t (2 ^ 27)) → o ≡ roundedHalf mode unmasked (unlike a b) (fraction (units a * units b) (2 ^ 48))
-product-rounded mode unmasked a b {neg} hu ht h = rw (← hu) (h ∙ sym (rw ht (sticky-shift mode unmasked neg (units a * units b) 22)))
+pub product-rounded : (mode : Mode) (unmaskedUE : Bool) (a b : ℕ) {neg : Bool} {t : ℕ} {o : Outcome} → neg ≡ unlike a b → t ≡ place (units a * units b) (2 ^ 22)
+    → o ≡ roundedHalf mode unmaskedUE neg (ratio t (2 ^ 27)) → o ≡ roundedHalf mode unmaskedUE (unlike a b) (ratio (units a * units b) (2 ^ 48))
+product-rounded mode unmaskedUE a b {neg} hu ht h = rw (← hu) (h ∙ sym (rw ht (sticky-shift mode unmaskedUE neg (units a * units b) 22)))
 
 -- ---- sums of the short way, in units of 2 ^ -57
 magnitude-scale : (like : Bool) (x y c : ℕ) → 0 < c → sumMagnitude like x y * c ≡ sumMagnitude like (x * c) (y * c)
@@ -169,20 +170,20 @@ normal-fused a b c na nb nc {y = y} {k = k} hx hi hj hy hk hs ht h =
     rw (← hs, ← ht, ← product-units a b na nb hx hi hj, ← e) h
 
 -- rounded, where it is large
-large-sum : (mode : Mode) (unmasked : Bool) {sx sy : Bool} {x y : ℕ} {s : Sum} {o : Outcome} → Summed sx x sy y s → 2 ^ 43 ≤ s .digits * 2 ^ s .exponent
-    → ((u : Bool) → o ≡ roundedHalf mode u (s .neg) (fraction (s .digits * 2 ^ s .exponent) (2 ^ 57))) → o ≡ exactSum mode unmasked sx x sy y (2 ^ 57)
-large-sum mode unmasked {sx} {sy} {x} {y} h n ho =
-    ho unmasked ∙ rw (h .magnitude, h .sign) (sum-rounded mode unmasked sx x sy y (2 ^ 57) (let g : 2 ^ 43 ≤ sumMagnitude (Bool·beq sx sy) x y = rw (h .magnitude) at n in omega (arith, g)))
+large-sum : (mode : Mode) (unmaskedUE : Bool) {sx sy : Bool} {x y : ℕ} {s : Sum} {o : Outcome} → Summed sx x sy y s → 2 ^ 43 ≤ s .digits * 2 ^ s .exponent
+    → ((u : Bool) → o ≡ roundedHalf mode u (s .neg) (ratio (s .digits * 2 ^ s .exponent) (2 ^ 57))) → o ≡ exactSum mode unmaskedUE sx x sy y (2 ^ 57)
+large-sum mode unmaskedUE {sx} {sy} {x} {y} h n ho =
+    ho unmaskedUE ∙ rw (h .magnitude, h .sign) (sum-rounded mode unmaskedUE sx x sy y (2 ^ 57) (let g : 2 ^ 43 ≤ sumMagnitude (Bool·beq sx sy) x y = rw (h .magnitude) at n in omega (arith, g)))
 
-pub add-rounds : (mode : Mode) (unmasked : Bool) (a b : ℕ) → isNormal a ≡ true → isNormal b ≡ true → {s : Sum} {o : Outcome} → Summed (negative a) (units a * 2 ^ 33) (negative b) (units b * 2 ^ 33) s → 2 ^ 43 ≤ s .digits * 2 ^ s .exponent
-    → ((u : Bool) → o ≡ roundedHalf mode u (s .neg) (fraction (s .digits * 2 ^ s .exponent) (2 ^ 57))) → o ≡ halfAdd mode unmasked a b
-add-rounds mode unmasked a b na nb h n ho =
-    large-sum mode unmasked h n ho ∙ sum-scale mode unmasked (negative a) (units a) (negative b) (units b) (2 ^ 24) (2 ^ 33) (omega arith) (omega arith) ∙ sym (normal-add mode unmasked a b na nb)
+pub add-rounds : (mode : Mode) (unmaskedUE : Bool) (a b : ℕ) → isNormal a ≡ true → isNormal b ≡ true → {s : Sum} {o : Outcome} → Summed (negative a) (units a * 2 ^ 33) (negative b) (units b * 2 ^ 33) s → 2 ^ 43 ≤ s .digits * 2 ^ s .exponent
+    → ((u : Bool) → o ≡ roundedHalf mode u (s .neg) (ratio (s .digits * 2 ^ s .exponent) (2 ^ 57))) → o ≡ halfAdd mode unmaskedUE a b
+add-rounds mode unmaskedUE a b na nb h n ho =
+    large-sum mode unmaskedUE h n ho ∙ sum-scale mode unmaskedUE (negative a) (units a) (negative b) (units b) (2 ^ 24) (2 ^ 33) (omega arith) (omega arith) ∙ sym (normal-add mode unmaskedUE a b na nb)
 
-pub fused-rounds : (mode : Mode) (unmasked : Bool) (a b c : ℕ) → isNormal a ≡ true → isNormal b ≡ true → isNormal c ≡ true → {s : Sum} {o : Outcome} → Summed (unlike a b) (units a * units b * 2 ^ 9) (negative c) (units c * 2 ^ 33) s
-    → 2 ^ 43 ≤ s .digits * 2 ^ s .exponent → ((u : Bool) → o ≡ roundedHalf mode u (s .neg) (fraction (s .digits * 2 ^ s .exponent) (2 ^ 57))) → o ≡ halfMultiplyAdd mode unmasked a b c
-fused-rounds mode unmasked a b c na nb nc h n ho =
-    large-sum mode unmasked h n ho
-    ∙ ap (λ (v : ℕ). exactSum mode unmasked (unlike a b) (units a * units b * 2 ^ 9) (negative c) v (2 ^ 57)) (let u : units c * 2 ^ 33 ≡ units c * 2 ^ 24 * 2 ^ 9 = omega arith in u)
-    ∙ sum-scale mode unmasked (unlike a b) (units a * units b) (negative c) (units c * 2 ^ 24) (2 ^ 48) (2 ^ 9) (omega arith) (omega arith)
-    ∙ sym (normal-multiply-add mode unmasked a b na nb c nc)
+pub fused-rounds : (mode : Mode) (unmaskedUE : Bool) (a b c : ℕ) → isNormal a ≡ true → isNormal b ≡ true → isNormal c ≡ true → {s : Sum} {o : Outcome} → Summed (unlike a b) (units a * units b * 2 ^ 9) (negative c) (units c * 2 ^ 33) s
+    → 2 ^ 43 ≤ s .digits * 2 ^ s .exponent → ((u : Bool) → o ≡ roundedHalf mode u (s .neg) (ratio (s .digits * 2 ^ s .exponent) (2 ^ 57))) → o ≡ halfMultiplyAdd mode unmaskedUE a b c
+fused-rounds mode unmaskedUE a b c na nb nc h n ho =
+    large-sum mode unmaskedUE h n ho
+    ∙ ap (λ (v : ℕ). exactSum mode unmaskedUE (unlike a b) (units a * units b * 2 ^ 9) (negative c) v (2 ^ 57)) (let u : units c * 2 ^ 33 ≡ units c * 2 ^ 24 * 2 ^ 9 = omega arith in u)
+    ∙ sum-scale mode unmaskedUE (unlike a b) (units a * units b) (negative c) (units c * 2 ^ 24) (2 ^ 48) (2 ^ 9) (omega arith) (omega arith)
+    ∙ sym (normal-multiply-add mode unmaskedUE a b na nb c nc)

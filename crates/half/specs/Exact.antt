@@ -1,5 +1,5 @@
 -- 01, Rounding and flags: "exact results are written as fractions of whole numbers, and a root by comparing squares". An exact
--- magnitude is asked two things: how it compares with a fraction, and how many whole units it holds; `roundTo` rounds it by these.
+-- magnitude is asked two things: how it compares with a ratio, and how many whole units it holds; `roundTo` rounds it by these.
 use Prim.Native.Nat.{ℕ, zero, suc, _+_, _*_, _/_, _^_, compare, Ordering, Ordering·lt, Ordering·eq, Ordering·gt}
 use mathlib.Core.Bool.{Bool, true, false, not, cond}
 use lib.Dec.{leb}
@@ -9,15 +9,15 @@ use Rattle.half.specs.declared.Mode.the-variants.{Nearest, Down, Up, Tow
 
 -- the number n / d, or the square root of n / d; d is above 0
 pub data Magnitude : Type 0 where
-  fraction rootOf : ℕ → ℕ → Magnitude
+  ratio rootOf : ℕ → ℕ → Magnitude
 
 abbrev pub denominator : Magnitude → ℕ
-denominator (fraction n d) = d
+denominator (ratio n d) = d
 denominator (rootOf n d) = d
 
 -- How x compares with a / b, where b is above 0: lt is x < a / b, eq is x = a / b, gt is x > a / b. A root goes by its square.
 unfoldable pub against : Magnitude → ℕ → ℕ → Ordering
-against (fraction n d) a b = compare (n * b) (a * d)
+against (ratio n d) a b = compare (n * b) (a * d)
 against (rootOf n d) a b = compare (n * (b * b)) (a * a * d)
 
 -- the largest s + y, for a y below 2 ^ k, whose square is at most n, if s is such: binary digit by digit, from the highest
@@ -32,7 +32,7 @@ wholeRoot n = rootFrom (size n) n 0
 -- How many whole units a / b there are in x, where a is above 0: q such that q units are at most x and q + 1 are more (crate half_laws,
 -- WholeUnitsLaw, also for the root, which is taken of a whole number).
 unfoldable pub whole : Magnitude → ℕ → ℕ → ℕ
-whole (fraction n d) a b = n * b / (d * a)
+whole (ratio n d) a b = n * b / (d * a)
 whole (rootOf n d) a b = wholeRoot (n * (b * b) / (d * (a * a)))
 
 -- ---- rounding to whole units: q of them, or q + 1

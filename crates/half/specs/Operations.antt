@@ -1,21 +1,19 @@
--- 01, Rounding and flags: the six operations, "first that applies" of rules 1 to 4. `unmasked` says whether UE is.
+-- 01, Rounding and flags: the six operations, "first that applies" of rules 1 to 4. `unmaskedUE` says whether
+-- UE is unmasked.
 use Prim.Native.Nat.{ℕ, _+_, _-_, _*_, _^_}
 use mathlib.Core.Bool.{Bool, false, not, _&&_, _||_, cond, Bool·beq}
 use mathlib.Core.List.{List, [], _∷_}
 use lib.Dec.{ltb}
 use lib.Bits.{bitOr}
+use Rattle.lists.specs.Lists.{some}
 use Rattle.half.specs.Format.{negative, isFinite, isInfinite, isNan, isSignalling, isZero, isSubnormal, units, withSign, infinity, negated, quiet}
-use Rattle.half.specs.Exact.{fraction, rootOf}
+use Rattle.half.specs.Exact.{ratio, rootOf}
 use Rattle.half.specs.Round.{IE, DE, ZE, flag, result, roundedHalf}
 use Rattle.half.specs.declared.Mode.{Mode}
 use Rattle.half.specs.declared.Mode.the-variants.{Nearest, Down, Up, TowardZero}
 use Rattle.half.specs.declared.Outcome.{Outcome}
 
 -- ---- what the operations share
-
-abbrev pub some : (ℕ → Bool) → List ℕ → Bool
-some p [] = false
-some p (h ∷ hs) = p h || some p hs
 
 -- "Operand order is as written": the list's
 abbrev pub firstNan : List ℕ → ℕ
@@ -54,64 +52,64 @@ cancelled TowardZero = 0x0000
 
 -- 4, for a sum of ± x / d and ± y / d. "Like signs keep theirs", also a zero.
 unfoldable pub exactSum : Mode → Bool → Bool → ℕ → Bool → ℕ → ℕ → Outcome
-exactSum mode unmasked sx x sy y d =
-    cond (Bool·beq sx sy) (roundedHalf mode unmasked sx (fraction (x + y) d))
-    (cond (ltb y x) (roundedHalf mode unmasked sx (fraction (x - y) d))
-    (cond (ltb x y) (roundedHalf mode unmasked sy (fraction (y - x) d))
+exactSum mode unmaskedUE sx x sy y d =
+    cond (Bool·beq sx sy) (roundedHalf mode unmaskedUE sx (ratio (x + y) d))
+    (cond (ltb y x) (roundedHalf mode unmaskedUE sx (ratio (x - y) d))
+    (cond (ltb x y) (roundedHalf mode unmaskedUE sy (ratio (y - x) d))
     (exactly (cancelled mode))))
 
 -- ---- the operations. `units h` is the magnitude of h times 2 ^ 24
 
 -- invalid: infinities that cancel
 unfoldable pub halfAdd : Mode → Bool → ℕ → ℕ → Outcome
-halfAdd mode unmasked a b =
+halfAdd mode unmaskedUE a b =
     unlessNan (a ∷ b ∷ [])
     (cond (isInfinite a && isInfinite b && unlike a b) invalid
     (withDenormals (a ∷ b ∷ [])
     (cond (isInfinite a) (exactly a)
     (cond (isInfinite b) (exactly b)
-    (exactSum mode unmasked (negative a) (units a) (negative b) (units b) (2 ^ 24))))))
+    (exactSum mode unmaskedUE (negative a) (units a) (negative b) (units b) (2 ^ 24))))))
 
 -- a + (-b), but a NaN keeps its sign
 unfoldable pub halfSubtract : Mode → Bool → ℕ → ℕ → Outcome
-halfSubtract mode unmasked a b = unlessNan (a ∷ b ∷ []) (halfAdd mode unmasked a (negated b))
+halfSubtract mode unmaskedUE a b = unlessNan (a ∷ b ∷ []) (halfAdd mode unmaskedUE a (negated b))
 
 -- invalid: 0 times infinity. "The sign of a product or quotient, zero or not, is minus exactly when the operands' signs differ".
 unfoldable pub halfMultiply : Mode → Bool → ℕ → ℕ → Outcome
-halfMultiply mode unmasked a b =
+halfMultiply mode unmaskedUE a b =
     unlessNan (a ∷ b ∷ [])
     (cond (isZero a && isInfinite b || isInfinite a && isZero b) invalid
     (withDenormals (a ∷ b ∷ [])
     (cond (isInfinite a || isInfinite b) (exactly (infinity (unlike a b)))
-    (roundedHalf mode unmasked (unlike a b) (fraction (units a * units b) (2 ^ 48))))))
+    (roundedHalf mode unmaskedUE (unlike a b) (ratio (units a * units b) (2 ^ 48))))))
 
 -- invalid: 0/0, infinity/infinity. "Finite non-zero divided by zero: signed infinity and ZE."
 unfoldable pub halfDivide : Mode → Bool → ℕ → ℕ → Outcome
-halfDivide mode unmasked a b =
+halfDivide mode unmaskedUE a b =
     unlessNan (a ∷ b ∷ [])
     (cond (isZero a && isZero b || isInfinite a && isInfinite b) invalid
     (cond (isFinite a && not (isZero a) && isZero b) (result (infinity (unlike a b)) ZE)
     (withDenormals (a ∷ b ∷ [])
     (cond (isInfinite a) (exactly (infinity (unlike a b)))
     (cond (isInfinite b) (exactly (withSign (unlike a b) 0))
-    (roundedHalf mode unmasked (unlike a b) (fraction (units a) (units b))))))))
+    (roundedHalf mode unmaskedUE (unlike a b) (ratio (units a) (units b))))))))
 
 -- invalid: root of a negative non-zero. "The root of -0 is -0."
 unfoldable pub halfRoot : Mode → Bool → ℕ → Outcome
-halfRoot mode unmasked a =
+halfRoot mode unmaskedUE a =
     unlessNan (a ∷ [])
     (cond (negative a && not (isZero a)) invalid
     (withDenormals (a ∷ [])
     (cond (isZero a || isInfinite a) (exactly a)
-    (roundedHalf mode unmasked false (rootOf (units a) (2 ^ 24))))))
+    (roundedHalf mode unmaskedUE false (rootOf (units a) (2 ^ 24))))))
 
 -- a * b + c, "for fused forms multiplicand, multiplier, addend"; invalid: 0 times infinity, infinities that cancel
 unfoldable pub halfMultiplyAdd : Mode → Bool → ℕ → ℕ → ℕ → Outcome
-halfMultiplyAdd mode unmasked a b c =
+halfMultiplyAdd mode unmaskedUE a b c =
     unlessNan (a ∷ b ∷ c ∷ [])
     (cond (isZero a && isInfinite b || isInfinite a && isZero b) invalid
     (cond ((isInfinite a || isInfinite b) && isInfinite c && not (Bool·beq (unlike a b) (negative c))) invalid
     (withDenormals (a ∷ b ∷ c ∷ [])
     (cond (isInfinite a || isInfinite b) (exactly (infinity (unlike a b)))
     (cond (isInfinite c) (exactly c)
-    (exactSum mode unmasked (unlike a b) (units a * units b) (negative c) (units c * 2 ^ 24) (2 ^ 48)))))))
+    (exactSum mode unmaskedUE (unlike a b) (units a * units b) (negative c) (units c * 2 ^ 24) (2 ^ 48)))))))

@@ -43,7 +43,7 @@ significant l mode neg x =
     let s = size (whole x 1 (2 ^ l)) - 11 in
     roundTo mode neg x (2 ^ s) (2 ^ l) * 2 ^ s
 
--- The unit 2 ^ -(fine x) is so fine that it sets no limit: an x above 0 with the denominator d, a fraction or a root, is at least
+-- The unit 2 ^ -(fine x) is so fine that it sets no limit: an x above 0 with the denominator d, a ratio or a root, is at least
 -- 1 / d, which is 2 ^ 24 of these units or more (crate half_laws, FinerLaw and ElevenBitsLaw).
 abbrev pub fine : Magnitude → ℕ
 fine x = 24 + size (denominator x)
@@ -83,9 +83,9 @@ overflowFields mode neg = cond (isNearest mode || outward mode neg) 0x7C00 0x7BF
 
 -- the half of this sign: "a non-zero value rounded to zero keeps its sign"
 unfoldable pub roundedHalf : Mode → Bool → Bool → Magnitude → Outcome
-roundedHalf mode unmasked neg x =
+roundedHalf mode unmaskedUE neg x =
     -- "OE and PE, and infinity or 7BFF/FBFF by mode."
     cond (overflows mode neg x) (result (withSign neg (overflowFields mode neg)) (bitOr OE PE))
     -- "PE if it differs from the exact value. UE if tiny and either UE is unmasked or PE holds."
     (result (withSign neg (encode (delivered mode neg x)))
-    (bitOr (flag PE (inexact mode neg x)) (flag UE (tiny mode neg x && (unmasked || inexact mode neg x)))))
+    (bitOr (flag PE (inexact mode neg x)) (flag UE (tiny mode neg x && (unmaskedUE || inexact mode neg x)))))

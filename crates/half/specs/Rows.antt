@@ -17,14 +17,14 @@ pub data Operation : Type 0 where
 pub record Row : Type 0 where
   pub op : Operation
   pub mode : Mode
-  pub unmasked : Bool
+  pub unmaskedUE : Bool
   pub a : ℕ
   pub b : ℕ
   pub c : ℕ
   pub gives : Outcome
 
 abbrev pub row : Operation → Mode → Bool → ℕ → ℕ → ℕ → ℕ → ℕ → Row
-row o m u a b c h f = record { op = o; mode = m; unmasked = u; a = a; b = b; c = c; gives = result h f }
+row o m u a b c h f = record { op = o; mode = m; unmaskedUE = u; a = a; b = b; c = c; gives = result h f }
 
 -- "Masked, mode 0 unless said." A row that names no flag has none, but that 3C00/4200 in mode 2 is inexact like its neighbour.
 unfoldable pub starred : List Row
@@ -54,8 +54,8 @@ abbrev pub outcomeOf : Row → Outcome
 outcomeOf r = go (r .op)
   where
     go : Operation → Outcome
-    go plus = halfAdd (r .mode) (r .unmasked) (r .a) (r .b)
-    go times = halfMultiply (r .mode) (r .unmasked) (r .a) (r .b)
-    go over = halfDivide (r .mode) (r .unmasked) (r .a) (r .b)
-    go root = halfRoot (r .mode) (r .unmasked) (r .a)
-    go fused = halfMultiplyAdd (r .mode) (r .unmasked) (r .a) (r .b) (r .c)
+    go plus = halfAdd (r .mode) (r .unmaskedUE) (r .a) (r .b)
+    go times = halfMultiply (r .mode) (r .unmaskedUE) (r .a) (r .b)
+    go over = halfDivide (r .mode) (r .unmaskedUE) (r .a) (r .b)
+    go root = halfRoot (r .mode) (r .unmaskedUE) (r .a)
+    go fused = halfMultiplyAdd (r .mode) (r .unmaskedUE) (r .a) (r .b) (r .c)

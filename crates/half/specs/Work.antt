@@ -14,7 +14,7 @@ use Rattle.half.specs.declared.normal.Sum.{Sum}
 abbrev pub more : ℕ → ℕ
 more r = min r 1
 
--- of the fraction n / d, for a d above 0
+-- of the ratio n / d, for a d above 0
 unfoldable pub place : ℕ → ℕ → ℕ
 place n d = 2 * (n / d) + more (n % d)
 

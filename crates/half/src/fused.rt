@@ -13,10 +13,10 @@ use super::operands;
 use super::product;
 use super::sum;
 
-// a * b + c for finite halves: in units of 2^-24 where the product is a multiple of them, else of 2^-48.
-fn finite_fused(mode: Mode, unmasked: bool, a: u16, b: u16, c: u16) -> Outcome
+// a * b + c for finite halves: in units of 2^-27 where the product is a multiple of 2^-26, else of 2^-48.
+fn finite_fused(mode: Mode, unmasked_ue: bool, a: u16, b: u16, c: u16) -> Outcome
     requires { ⌜ units c ≤ 2047 * 2 ^ 29 ⌝ }
-    ensures { λ r. ⌜ r ≡ exactSum mode unmasked (unlike a b) (units a * units b) (negative c) (units c * 2 ^ 24) (2 ^ 48) ⌝ }
+    ensures { λ r. ⌜ r ≡ exactSum mode «unmasked_ue» (unlike a b) (units a * units b) (negative c) (units c * 2 ^ 24) (2 ^ 48) ⌝ }
 {
     let p = product::scaled_product(a, b);
     let neg = operands::unlike_signs(a, b);
@@ -25,7 +25,7 @@ fn finite_fused(mode: Mode, unmasked: bool, a: u16, b: u16, c: u16) -> Outcome
     if p.raised {
         return sum::finite_sum(
             mode,
-            unmasked,
+            unmasked_ue,
             neg,
             (2 * p.significand) << p.by,
             sc,
@@ -34,13 +34,13 @@ fn finite_fused(mode: Mode, unmasked: bool, a: u16, b: u16, c: u16) -> Outcome
         );
     }
     let x = p.significand << (22 - p.by);
-    sum::finite_sum(mode, unmasked, neg, x, sc, n * 0x100_0000, 22)
+    sum::finite_sum(mode, unmasked_ue, neg, x, sc, n * 0x100_0000, 22)
 }
 
 // With a NaN or an infinity, which turns on no mode.
 fn special_fused(a: u16, b: u16, c: u16) -> Outcome
     requires { ⌜ (isFinite a && (isFinite b && isFinite c)) ≡ false ⌝ }
-    ensures { λ r. ⌜ ((mode : Mode) (unmasked : Bool) → r ≡ halfMultiplyAdd mode unmasked a b c) ⌝ }
+    ensures { λ r. ⌜ ((mode : Mode) (unmaskedUE : Bool) → r ≡ halfMultiplyAdd mode unmaskedUE a b c) ⌝ }
 {
     if operands::any_nan(a, b, c) {
         return operands::nan_result(a, b, c);
@@ -64,13 +64,13 @@ fn special_fused(a: u16, b: u16, c: u16) -> Outcome
 }
 
 // a * b + c for any operands.
-fn any_fused(mode: Mode, unmasked: bool, a: u16, b: u16, c: u16) -> Outcome
-    ensures { λ r. ⌜ r ≡ halfMultiplyAdd mode unmasked a b c ⌝ }
+fn any_fused(mode: Mode, unmasked_ue: bool, a: u16, b: u16, c: u16) -> Outcome
+    ensures { λ r. ⌜ r ≡ halfMultiplyAdd mode «unmasked_ue» a b c ⌝ }
 {
     if !operands::all_finite(a, b, c) {
         return special_fused(a, b, c);
     }
-    let o = finite_fused(mode, unmasked, a, b, c);
+    let o = finite_fused(mode, unmasked_ue, a, b, c);
     operands::with_flags(operands::denormal_flag(a, b, c), o)
 }
 
@@ -88,15 +88,15 @@ fn normal_fused(a: u16, b: u16, c: u16) -> normal::Sum
     sum::shifted_sum(neg, x, i, sc, y, j)
 }
 
-pub fn multiply_add(mode: Mode, unmasked: bool, a: u16, b: u16, c: u16) -> Outcome
-    ensures { λ r. ⌜ r ≡ halfMultiplyAdd mode unmasked a b c ⌝ }
+pub fn multiply_add(mode: Mode, unmasked_ue: bool, a: u16, b: u16, c: u16) -> Outcome
+    ensures { λ r. ⌜ r ≡ halfMultiplyAdd mode «unmasked_ue» a b c ⌝ }
 {
     if !(normal::is_normal(a) & (normal::is_normal(b) & normal::is_normal(c))) {
-        return any_fused(mode, unmasked, a, b, c);
+        return any_fused(mode, unmasked_ue, a, b, c);
     }
     let s = normal_fused(a, b, c);
     if !normal::is_large(s.digits, s.exponent) {
-        return any_fused(mode, unmasked, a, b, c);
+        return any_fused(mode, unmasked_ue, a, b, c);
     }
     normal::round_large(mode, s.neg, s.digits, s.exponent)
 }

@@ -17,7 +17,20 @@ pub enum Mode {
     TowardZero,
 }
 
-// What an operation hands back: a half, and the flags IE 1, DE 2, ZE 4, OE 8, UE 16, PE 32.
+// The flags, in the order of their bits.
+const IE: u8 = 1;
+
+const DE: u8 = 2;
+
+const ZE: u8 = 4;
+
+const OE: u8 = 8;
+
+const UE: u8 = 16;
+
+const PE: u8 = 32;
+
+// What an operation hands back: a half, and its flags or-ed.
 pub struct Outcome {
     pub half: u16,
     pub flags: u8,

@@ -6,11 +6,12 @@ ghost use Prim.Native.Nat.{_<_, _≤_, _+_, _*_, _^_};
 ghost use mathlib.Core.Bool.{Bool, true};
 ghost use lib.Dec.{leb};
 ghost use Rattle.half.specs.Format.{exponentField, significand, units};
-ghost use Rattle.half.specs.Exact.{fraction};
+ghost use Rattle.half.specs.Exact.{ratio};
 ghost use Rattle.half.specs.Round.{roundedHalf};
 ghost use Rattle.half.specs.Work.{isNormal};
 use super::Mode;
 use super::Outcome;
+use super::PE;
 use super::fields;
 use super::operands;
 use super::rounding;
@@ -63,7 +64,7 @@ pub fn product_of(a: u16, b: u16) -> u64
 // is normal, or too large, so that nothing turns on the mask of UE.
 pub fn packed(mode: Mode, neg: bool, z: u64, k: u32) -> Outcome
     requires { ⌜ (2 ^ 12 ≤ z) × (z < 2 ^ 13) × (k < 128) ⌝ }
-    ensures { λ r. ⌜ ((unmasked : Bool) → r ≡ roundedHalf mode unmasked neg (fraction (z * 2 ^ k) (2 ^ 26))) ⌝ }
+    ensures { λ r. ⌜ ((unmaskedUE : Bool) → r ≡ roundedHalf mode unmaskedUE neg (ratio (z * 2 ^ k) (2 ^ 26))) ⌝ }
 {
     let q = rounding::whole_steps(mode, neg, z);
     let m = (k as u64) * 1024 + q;
@@ -73,7 +74,7 @@ pub fn packed(mode: Mode, neg: bool, z: u64, k: u32) -> Outcome
     let h = fields::with_sign(neg, m as u16);
     Outcome {
         half: h,
-        flags: operands::flag_if(32, z % 4 != 0),
+        flags: operands::flag_if(PE, z % 4 != 0),
     }
 }
 
@@ -88,7 +89,7 @@ pub fn is_large(m: u64, e: u32) -> bool
 // m * 2^e rounded, where it is large.
 pub fn round_large(mode: Mode, neg: bool, m: u64, e: u32) -> Outcome
     requires { ⌜ (2 ^ 43 ≤ m * 2 ^ e) × (e < 80) ⌝ }
-    ensures { λ r. ⌜ ((unmasked : Bool) → r ≡ roundedHalf mode unmasked neg (fraction (m * 2 ^ e) (2 ^ 57))) ⌝ }
+    ensures { λ r. ⌜ ((unmaskedUE : Bool) → r ≡ roundedHalf mode unmaskedUE neg (ratio (m * 2 ^ e) (2 ^ 57))) ⌝ }
 {
     let zeros = u64::leading_zeros(m);
     let z = rounding::place_of(m << zeros, 52);
@@ -96,9 +97,9 @@ pub fn round_large(mode: Mode, neg: bool, m: u64, e: u32) -> Outcome
 }
 
 // m * 2^e rounded, where the half may be subnormal. Callers test which of the two it is: in one function the back end puts both out of line.
-pub fn round_small(mode: Mode, unmasked: bool, neg: bool, m: u64, e: u32) -> Outcome
+pub fn round_small(mode: Mode, unmasked_ue: bool, neg: bool, m: u64, e: u32) -> Outcome
     requires { ⌜ e < 31 ⌝ }
-    ensures { λ r. ⌜ r ≡ roundedHalf mode unmasked neg (fraction (m * 2 ^ e) (2 ^ 57)) ⌝ }
+    ensures { λ r. ⌜ r ≡ roundedHalf mode «unmasked_ue» neg (ratio (m * 2 ^ e) (2 ^ 57)) ⌝ }
 {
-    rounding::round(mode, unmasked, neg, rounding::place_of(m, 31 - e))
+    rounding::round(mode, unmasked_ue, neg, rounding::place_of(m, 31 - e))
 }

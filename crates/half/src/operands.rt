@@ -5,7 +5,10 @@ ghost use mathlib.Core.List.{[], _∷_};
 ghost use lib.Bits.{bitOr};
 ghost use Rattle.half.specs.Format.{isFinite, isNan, isSignalling, isSubnormal};
 ghost use Rattle.half.specs.Round.{IE, DE, flag, result};
-ghost use Rattle.half.specs.Operations.{some, firstNan, nanResult, invalid, unlike};
+ghost use Rattle.lists.specs.Lists.{some};
+ghost use Rattle.half.specs.Operations.{nanResult, invalid, unlike};
+use super::DE;
+use super::IE;
 use super::Outcome;
 use super::fields;
 
@@ -32,14 +35,14 @@ fn invalid_flag(a: u16, b: u16, c: u16) -> u8
     ensures { λ r. ⌜ r ≡ flag IE (some isSignalling (a ∷ b ∷ c ∷ [])) ⌝ }
 {
     let any = fields::signalling(a) | (fields::signalling(b) | fields::signalling(c));
-    flag_if(1, any)
+    flag_if(IE, any)
 }
 
 pub fn denormal_flag(a: u16, b: u16, c: u16) -> u8
     ensures { λ r. ⌜ r ≡ flag DE (some isSubnormal (a ∷ b ∷ c ∷ [])) ⌝ }
 {
     let any = fields::subnormal(a) | (fields::subnormal(b) | fields::subnormal(c));
-    flag_if(2, any)
+    flag_if(DE, any)
 }
 
 fn nan_or(a: u16, other: u16) -> u16
@@ -64,7 +67,7 @@ pub fn invalid_result() -> Outcome
 {
     Outcome {
         half: 0xFE00,
-        flags: 1,
+        flags: IE,
     }
 }
 

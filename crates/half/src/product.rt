@@ -14,7 +14,7 @@ use super::operands;
 use super::rounding;
 
 // The product of two significands, and how far its lowest bit lies above 2^-26 (raised) or below.
-pub struct Product {
+pub(crate) struct Product {
     pub significand: u64,
     pub raised: bool,
     pub by: u32,
@@ -66,7 +66,7 @@ pub(crate) fn zero_times_infinity(a: u16, b: u16) -> bool
 // A product with a NaN or an infinity, which turns on no mode.
 fn special_product(a: u16, b: u16) -> Outcome
     requires { ⌜ (isFinite a && (isFinite b && isFinite b)) ≡ false ⌝ }
-    ensures { λ r. ⌜ ((mode : Mode) (unmasked : Bool) → r ≡ halfMultiply mode unmasked a b) ⌝ }
+    ensures { λ r. ⌜ ((mode : Mode) (unmaskedUE : Bool) → r ≡ halfMultiply mode unmaskedUE a b) ⌝ }
 {
     if operands::any_nan(a, b, b) {
         return operands::nan_result(a, b, b);
@@ -82,39 +82,39 @@ fn special_product(a: u16, b: u16) -> Outcome
 }
 
 // The product of any operands.
-fn any_product(mode: Mode, unmasked: bool, a: u16, b: u16) -> Outcome
-    ensures { λ r. ⌜ r ≡ halfMultiply mode unmasked a b ⌝ }
+fn any_product(mode: Mode, unmasked_ue: bool, a: u16, b: u16) -> Outcome
+    ensures { λ r. ⌜ r ≡ halfMultiply mode «unmasked_ue» a b ⌝ }
 {
     if !operands::all_finite(a, b, b) {
         return special_product(a, b);
     }
     let neg = operands::unlike_signs(a, b);
-    let o = rounding::round(mode, unmasked, neg, product_place(a, b));
+    let o = rounding::round(mode, unmasked_ue, neg, product_place(a, b));
     operands::with_flags(operands::denormal_flag(a, b, b), o)
 }
 
 // The product of two significands has 21 digits or 22: from the exponent 23 on it is large.
-fn normal_product(mode: Mode, unmasked: bool, a: u16, b: u16) -> Outcome
+fn normal_product(mode: Mode, unmasked_ue: bool, a: u16, b: u16) -> Outcome
     requires { ⌜ (isNormal a ≡ true) × (isNormal b ≡ true) ⌝ }
-    ensures { λ r. ⌜ r ≡ halfMultiply mode unmasked a b ⌝ }
+    ensures { λ r. ⌜ r ≡ halfMultiply mode «unmasked_ue» a b ⌝ }
 {
     let m = normal::product_of(a, b);
     let e = normal::exponent_of(a) + normal::exponent_of(b) + 7;
     let neg = operands::unlike_signs(a, b);
     if e < 23 {
-        return normal::round_small(mode, unmasked, neg, m, e);
+        return normal::round_small(mode, unmasked_ue, neg, m, e);
     }
     normal::round_large(mode, neg, m, e)
 }
 
-pub fn multiply(mode: Mode, unmasked: bool, a: u16, b: u16) -> Outcome
-    ensures { λ r. ⌜ r ≡ halfMultiply mode unmasked a b ⌝ }
+pub fn multiply(mode: Mode, unmasked_ue: bool, a: u16, b: u16) -> Outcome
+    ensures { λ r. ⌜ r ≡ halfMultiply mode «unmasked_ue» a b ⌝ }
 {
     if !normal::is_normal(a) {
-        return any_product(mode, unmasked, a, b);
+        return any_product(mode, unmasked_ue, a, b);
     }
     if !normal::is_normal(b) {
-        return any_product(mode, unmasked, a, b);
+        return any_product(mode, unmasked_ue, a, b);
     }
-    normal_product(mode, unmasked, a, b)
+    normal_product(mode, unmasked_ue, a, b)
 }

@@ -14,6 +14,9 @@ use super::fields;
 use super::normal;
 use super::operands;
 
+// A line that stays near the root of n, for an n of 23 digits one, for 24 (long) another: start + rise / 2^24. It is off by less than 20 and
+// 28, and the root is 2048 or more, so that the mean of Heron's rule is above the root by less than 1/7. (Tried for every n: rounded down,
+// it is the whole root or the next number.)
 fn start(long: bool) -> u64
     ensures { λ r. ⌜ (0 < r) × (r < 2 ^ 11) ⌝ }
 {
@@ -27,7 +30,7 @@ fn rise(long: bool, n: u64) -> u64
     if long { n * 2399 } else { n * 3394 }
 }
 
-// Near the root of n, for an n of 23 or 24 digits: on a line for each. That it is above 0 is all that is relied on.
+// On the line. That it is above 0 is all that the proof relies on.
 fn guess(n: u64) -> u64
     requires { ⌜ n < 2 ^ 24 ⌝ }
     ensures { λ r. ⌜ (0 < r) × (r < 2 ^ 13) ⌝ }
@@ -79,7 +82,7 @@ fn half_exponent(x: u64) -> u32
 // rest. No root is tiny.
 fn finite_root(mode: Mode, a: u16) -> Outcome
     requires { ⌜ (isFinite a ≡ true) × (isZero a ≡ false) ⌝ }
-    ensures { λ r. ⌜ ((unmasked : Bool) → r ≡ roundedHalf mode unmasked false (rootOf (units a) (2 ^ 24))) ⌝ }
+    ensures { λ r. ⌜ ((unmaskedUE : Bool) → r ≡ roundedHalf mode unmaskedUE false (rootOf (units a) (2 ^ 24))) ⌝ }
 {
     let x = fields::magnitude(a);
     let j = half_exponent(x);
@@ -90,7 +93,7 @@ fn finite_root(mode: Mode, a: u16) -> Outcome
 // The root of a NaN, an infinity, a zero or a negative number, which turns on no mode.
 fn special_root(a: u16) -> Outcome
     requires { ⌜ (isFinite a && (not (negative a) && not (isZero a))) ≡ false ⌝ }
-    ensures { λ r. ⌜ ((mode : Mode) (unmasked : Bool) → r ≡ halfRoot mode unmasked a) ⌝ }
+    ensures { λ r. ⌜ ((mode : Mode) (unmaskedUE : Bool) → r ≡ halfRoot mode unmaskedUE a) ⌝ }
 {
     if operands::any_nan(a, a, a) {
         return operands::nan_result(a, a, a);
@@ -106,7 +109,7 @@ fn special_root(a: u16) -> Outcome
 
 // The root of any operand.
 fn any_root(mode: Mode, a: u16) -> Outcome
-    ensures { λ r. ⌜ ((unmasked : Bool) → r ≡ halfRoot mode unmasked a) ⌝ }
+    ensures { λ r. ⌜ ((unmaskedUE : Bool) → r ≡ halfRoot mode unmaskedUE a) ⌝ }
 {
     let ordinary = fields::finite(a) & (!fields::sign_of(a) & !fields::zero(a));
     if !ordinary {
@@ -119,15 +122,15 @@ fn any_root(mode: Mode, a: u16) -> Outcome
 // Of a normal half the exponent says by how much the significand is to be raised.
 fn normal_root(mode: Mode, a: u16) -> Outcome
     requires { ⌜ (isNormal a ≡ true) × (negative a ≡ false) ⌝ }
-    ensures { λ r. ⌜ ((unmasked : Bool) → r ≡ halfRoot mode unmasked a) ⌝ }
+    ensures { λ r. ⌜ ((unmaskedUE : Bool) → r ≡ halfRoot mode unmaskedUE a) ⌝ }
 {
     let e = normal::exponent_of(a);
     let z = root_place(normal::significand_of(a) << (13 - e % 2));
     normal::packed(mode, false, z, (e + 13) / 2)
 }
 
-pub fn square_root(mode: Mode, unmasked: bool, a: u16) -> Outcome
-    ensures { λ r. ⌜ r ≡ halfRoot mode unmasked a ⌝ }
+pub fn square_root(mode: Mode, unmasked_ue: bool, a: u16) -> Outcome
+    ensures { λ r. ⌜ r ≡ halfRoot mode «unmasked_ue» a ⌝ }
 {
     if fields::sign_of(a) {
         return special_root(a);

@@ -6,11 +6,14 @@ ghost use mathlib.Core.Bool.{true, false, cond};
 ghost use lib.Bits.{bitOr};
 ghost use lib.Ieee.{size};
 ghost use Rattle.half.specs.Format.{withSign};
-ghost use Rattle.half.specs.Exact.{fraction, isNearest, outward, roundTo};
-ghost use Rattle.half.specs.Round.{OE, UE, PE, flag, result, tiny, overflowFields, roundedHalf};
+ghost use Rattle.half.specs.Exact.{ratio, isNearest, outward, roundTo};
+ghost use Rattle.half.specs.Round.{OE, PE, result, tiny, overflowFields, roundedHalf};
 ghost use Rattle.half.specs.Work.{place};
 use super::Mode;
+use super::OE;
 use super::Outcome;
+use super::PE;
+use super::UE;
 use super::fields;
 use super::operands;
 
@@ -75,7 +78,7 @@ fn carry(nearest: bool, outward: bool, odd: u64) -> u64
 // z / 4 rounded to a whole number.
 pub fn whole_steps(mode: Mode, neg: bool, z: u64) -> u64
     requires { ⌜ z < 2 ^ 63 ⌝ }
-    ensures { λ r. ⌜ r ≡ roundTo mode neg (fraction z 4) 1 1 ⌝ }
+    ensures { λ r. ⌜ r ≡ roundTo mode neg (ratio z 4) 1 1 ⌝ }
 {
     let outward = leads_outward(mode, neg);
     (z + carry(is_nearest(mode), outward, z / 4 % 2)) / 4
@@ -97,7 +100,7 @@ pub fn overflow(mode: Mode, neg: bool) -> Outcome
     let m = overflow_fields(mode, neg);
     Outcome {
         half: fields::with_sign(neg, m),
-        flags: 40,
+        flags: OE | PE,
     }
 }
 
@@ -121,15 +124,15 @@ fn dropped(t: u64) -> u32
 // t / 2^27 is tiny: 2^-14 is 8192 of these, and just below it the steps of 11 bits are 4. The last step, from 8188 on, is the odd
 // 2047: what is carried into the next leads to 2^-14.
 fn is_tiny(mode: Mode, neg: bool, t: u64) -> bool
-    ensures { λ r. ⌜ r ≡ tiny mode neg (fraction t (2 ^ 27)) ⌝ }
+    ensures { λ r. ⌜ r ≡ tiny mode neg (ratio t (2 ^ 27)) ⌝ }
 {
     let outward = leads_outward(mode, neg);
     (t != 0) & (t < 8192 - carry(is_nearest(mode), outward, 1))
 }
 
 // t / 2^27 rounded.
-pub fn round(mode: Mode, unmasked: bool, neg: bool, t: u64) -> Outcome
-    ensures { λ r. ⌜ r ≡ roundedHalf mode unmasked neg (fraction t (2 ^ 27)) ⌝ }
+pub fn round(mode: Mode, unmasked_ue: bool, neg: bool, t: u64) -> Outcome
+    ensures { λ r. ⌜ r ≡ roundedHalf mode «unmasked_ue» neg (ratio t (2 ^ 27)) ⌝ }
 {
     let k = dropped(t);
     let z = place_of(t, k + 2);
@@ -139,10 +142,10 @@ pub fn round(mode: Mode, unmasked: bool, neg: bool, t: u64) -> Outcome
         return overflow(mode, neg);
     }
     let inexact = z % 4 != 0;
-    let ue = is_tiny(mode, neg, t) & (unmasked | inexact);
+    let ue = is_tiny(mode, neg, t) & (unmasked_ue | inexact);
     let h = fields::with_sign(neg, m as u16);
     Outcome {
         half: h,
-        flags: operands::flag_if(32, inexact) | operands::flag_if(16, ue),
+        flags: operands::flag_if(PE, inexact) | operands::flag_if(UE, ue),
     }
 }

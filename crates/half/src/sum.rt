@@ -79,7 +79,7 @@ fn zero_sum(mode: Mode, like: bool, neg: bool) -> u16
 // ±x / 2^(26 + k) and ±y / 2^(26 + k) added and rounded.
 pub(crate) fn finite_sum(
     mode: Mode,
-    unmasked: bool,
+    unmasked_ue: bool,
     sx: bool,
     x: u64,
     sy: bool,
@@ -87,7 +87,7 @@ pub(crate) fn finite_sum(
     k: u32,
 ) -> Outcome
     requires { ⌜ (x + y < 2 ^ 64) × (1 ≤ k) × (k < 64) ⌝ }
-    ensures { λ r. ⌜ r ≡ exactSum mode unmasked sx x sy y (2 ^ (k + 26)) ⌝ }
+    ensures { λ r. ⌜ r ≡ exactSum mode «unmasked_ue» sx x sy y (2 ^ (k + 26)) ⌝ }
 {
     let like = sx == sy;
     let m = total(like, x, y);
@@ -98,13 +98,13 @@ pub(crate) fn finite_sum(
         };
     }
     let neg = sign_of_larger(sx, x, sy, y);
-    rounding::round(mode, unmasked, neg, place_of_sum(m, k))
+    rounding::round(mode, unmasked_ue, neg, place_of_sum(m, k))
 }
 
 // A sum with a NaN or an infinity, which turns on no mode.
 fn special_sum(a: u16, b: u16) -> Outcome
     requires { ⌜ (isFinite a && (isFinite b && isFinite b)) ≡ false ⌝ }
-    ensures { λ r. ⌜ ((mode : Mode) (unmasked : Bool) → r ≡ halfAdd mode unmasked a b) ⌝ }
+    ensures { λ r. ⌜ ((mode : Mode) (unmaskedUE : Bool) → r ≡ halfAdd mode unmaskedUE a b) ⌝ }
 {
     if operands::any_nan(a, b, b) {
         return operands::nan_result(a, b, b);
@@ -120,8 +120,8 @@ fn special_sum(a: u16, b: u16) -> Outcome
 }
 
 // The sum of any operands.
-fn any_sum(mode: Mode, unmasked: bool, a: u16, b: u16) -> Outcome
-    ensures { λ r. ⌜ r ≡ halfAdd mode unmasked a b ⌝ }
+fn any_sum(mode: Mode, unmasked_ue: bool, a: u16, b: u16) -> Outcome
+    ensures { λ r. ⌜ r ≡ halfAdd mode «unmasked_ue» a b ⌝ }
 {
     if !operands::all_finite(a, b, b) {
         return special_sum(a, b);
@@ -130,7 +130,7 @@ fn any_sum(mode: Mode, unmasked: bool, a: u16, b: u16) -> Outcome
     let y = fields::magnitude(b) * 8;
     let sx = fields::sign_of(a);
     let sy = fields::sign_of(b);
-    let o = finite_sum(mode, unmasked, sx, x, sy, y, 1);
+    let o = finite_sum(mode, unmasked_ue, sx, x, sy, y, 1);
     operands::with_flags(operands::denormal_flag(a, b, b), o)
 }
 
@@ -171,18 +171,18 @@ pub(crate) fn shifted_sum(sx: bool, x: u64, i: u32, sy: bool, y: u64, j: u32) ->
     }
 }
 
-pub fn add(mode: Mode, unmasked: bool, a: u16, b: u16) -> Outcome
-    ensures { λ r. ⌜ r ≡ halfAdd mode unmasked a b ⌝ }
+pub fn add(mode: Mode, unmasked_ue: bool, a: u16, b: u16) -> Outcome
+    ensures { λ r. ⌜ r ≡ halfAdd mode «unmasked_ue» a b ⌝ }
 {
     if !normal::is_normal(a) {
-        return any_sum(mode, unmasked, a, b);
+        return any_sum(mode, unmasked_ue, a, b);
     }
     if !normal::is_normal(b) {
-        return any_sum(mode, unmasked, a, b);
+        return any_sum(mode, unmasked_ue, a, b);
     }
     let s = normal_sum(a, b);
     if !normal::is_large(s.digits, s.exponent) {
-        return any_sum(mode, unmasked, a, b);
+        return any_sum(mode, unmasked_ue, a, b);
     }
     normal::round_large(mode, s.neg, s.digits, s.exponent)
 }
@@ -194,8 +194,8 @@ fn subtrahend(b: u16) -> u16
     if fields::nan(b) { b } else { b ^ 0x8000 }
 }
 
-pub fn subtract(mode: Mode, unmasked: bool, a: u16, b: u16) -> Outcome
-    ensures { λ r. ⌜ r ≡ halfSubtract mode unmasked a b ⌝ }
+pub fn subtract(mode: Mode, unmasked_ue: bool, a: u16, b: u16) -> Outcome
+    ensures { λ r. ⌜ r ≡ halfSubtract mode «unmasked_ue» a b ⌝ }
 {
-    add(mode, unmasked, a, subtrahend(b))
+    add(mode, unmasked_ue, a, subtrahend(b))
 }

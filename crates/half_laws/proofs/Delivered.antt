@@ -83,24 +83,24 @@ module _ (mode : Mode) (neg : Bool) (x : Magnitude) (hd : 0 < denominator x) whe
     pub below-top : D < 2 ^ 40
     below-top = leb-false (2 ^ 40) D (sym overflows-is ∙ fits)
 
-    pub rounded-is : (unmasked : Bool) → roundedHalf mode unmasked neg x
-        ≡ result (withSign neg (encode D)) (bitOr (flag PE (inexact mode neg x)) (flag UE (tiny mode neg x && (unmasked || inexact mode neg x))))
+    pub rounded-is : (unmaskedUE : Bool) → roundedHalf mode unmaskedUE neg x
+        ≡ result (withSign neg (encode D)) (bitOr (flag PE (inexact mode neg x)) (flag UE (tiny mode neg x && (unmaskedUE || inexact mode neg x))))
     unfolding roundedHalf
-    rounded-is unmasked = rw fits
+    rounded-is unmaskedUE = rw fits
 
-    pub half-is : (unmasked : Bool) → halfOf mode unmasked neg x ≡ withSign neg (encode D)
-    half-is unmasked = ap (λ (o : Outcome). o .half) (rounded-is unmasked)
+    pub half-is : (unmaskedUE : Bool) → halfOf mode unmaskedUE neg x ≡ withSign neg (encode D)
+    half-is unmaskedUE = ap (λ (o : Outcome). o .half) (rounded-is unmaskedUE)
 
-    pub stands : (unmasked : Bool) → StandsFor neg D (halfOf mode unmasked neg x)
-    stands unmasked = rw (half-is unmasked) (
+    pub stands : (unmaskedUE : Bool) → StandsFor neg D (halfOf mode unmaskedUE neg x)
+    stands unmaskedUE = rw (half-is unmaskedUE) (
         let f : encode D < 31744 = fields-fit below-top in
         let g : encode D < 32768 = omega arith in
         record { small = signed-lt neg (encode D) g; finite = signed-finite neg (encode D) f; sign = signed-negative neg (encode D) g; number = signed-units neg (encode D) ∙ delivered-is below-top }
         )
 
     -- PE, bit 5, says whether what is delivered differs from the exact value
-    pub inexact-flag : (unmasked : Bool) → raises PE mode unmasked neg x ≡ inexact mode neg x
-    inexact-flag unmasked = rw (rounded-is unmasked) (go (inexact mode neg x) (tiny mode neg x && (unmasked || inexact mode neg x)))
+    pub inexact-flag : (unmaskedUE : Bool) → raises PE mode unmaskedUE neg x ≡ inexact mode neg x
+    inexact-flag unmaskedUE = rw (rounded-is unmaskedUE) (go (inexact mode neg x) (tiny mode neg x && (unmaskedUE || inexact mode neg x)))
       where
         go : (i u : Bool) → eqb (bitOr (flag PE i) (flag UE u) / PE % 2) 1 ≡ i
         go true true = refl
@@ -109,19 +109,19 @@ module _ (mode : Mode) (neg : Bool) (x : Magnitude) (hd : 0 < denominator x) whe
         go false false = refl
 
 -- UE, bit 4, by the definition and by PE
-pub underflow-flag : (mode : Mode) (unmasked neg : Bool) (x : Magnitude) → overflows mode neg x ≡ false
-    → raises UE mode unmasked neg x ≡ (tiny mode neg x && (unmasked || raises PE mode unmasked neg x))
+pub underflow-flag : (mode : Mode) (unmaskedUE neg : Bool) (x : Magnitude) → overflows mode neg x ≡ false
+    → raises UE mode unmaskedUE neg x ≡ (tiny mode neg x && (unmaskedUE || raises PE mode unmaskedUE neg x))
 unfolding roundedHalf
-underflow-flag mode unmasked neg x e = rw e (go (inexact mode neg x) (tiny mode neg x))
+underflow-flag mode unmaskedUE neg x e = rw e (go (inexact mode neg x) (tiny mode neg x))
   where
     go : (i t : Bool)
-        → eqb (bitOr (flag PE i) (flag UE (t && (unmasked || i))) / UE % 2) 1 ≡ (t && (unmasked || eqb (bitOr (flag PE i) (flag UE (t && (unmasked || i))) / PE % 2) 1))
+        → eqb (bitOr (flag PE i) (flag UE (t && (unmaskedUE || i))) / UE % 2) 1 ≡ (t && (unmaskedUE || eqb (bitOr (flag PE i) (flag UE (t && (unmaskedUE || i))) / PE % 2) 1))
     go i false = low i
       where
         low : (i : Bool) → eqb (bitOr (flag PE i) 0 / UE % 2) 1 ≡ false
         low true = refl
         low false = refl
-    go i true = both unmasked i
+    go i true = both unmaskedUE i
       where
         both : (u i : Bool) → eqb (bitOr (flag PE i) (flag UE (u || i)) / UE % 2) 1 ≡ (u || eqb (bitOr (flag PE i) (flag UE (u || i)) / PE % 2) 1)
         both true true = refl
@@ -131,12 +131,12 @@ underflow-flag mode unmasked neg x e = rw e (go (inexact mode neg x) (tiny mode 
 
 -- ---- with overflow
 
-pub over-is : (mode : Mode) (unmasked neg : Bool) (x : Magnitude) → overflows mode neg x ≡ true → roundedHalf mode unmasked neg x ≡ result (withSign neg (overflowFields mode neg)) (bitOr OE PE)
+pub over-is : (mode : Mode) (unmaskedUE neg : Bool) (x : Magnitude) → overflows mode neg x ≡ true → roundedHalf mode unmaskedUE neg x ≡ result (withSign neg (overflowFields mode neg)) (bitOr OE PE)
 unfolding roundedHalf
-over-is mode unmasked neg x e = rw e
+over-is mode unmaskedUE neg x e = rw e
 
-pub over-half : (mode : Mode) (unmasked neg : Bool) (x : Magnitude) → overflows mode neg x ≡ true → halfOf mode unmasked neg x ≡ withSign neg (overflowFields mode neg)
-over-half mode unmasked neg x e = ap (λ (o : Outcome). o .half) (over-is mode unmasked neg x e)
+pub over-half : (mode : Mode) (unmaskedUE neg : Bool) (x : Magnitude) → overflows mode neg x ≡ true → halfOf mode unmaskedUE neg x ≡ withSign neg (overflowFields mode neg)
+over-half mode unmaskedUE neg x e = ap (λ (o : Outcome). o .half) (over-is mode unmaskedUE neg x e)
 
 -- the fields are those of the infinity or of the largest half
 pub overflow-ge : (mode : Mode) (neg : Bool) → 31743 ≤ overflowFields mode neg
@@ -147,9 +147,9 @@ overflow-ge mode neg = go (isNearest mode || outward mode neg)
     go false = omega arith
 
 -- OE, bit 3, says whether there was overflow
-pub overflow-flag : (mode : Mode) (unmasked neg : Bool) (x : Magnitude) → raises OE mode unmasked neg x ≡ overflows mode neg x
+pub overflow-flag : (mode : Mode) (unmaskedUE neg : Bool) (x : Magnitude) → raises OE mode unmaskedUE neg x ≡ overflows mode neg x
 unfolding roundedHalf
-overflow-flag mode unmasked neg x = go (overflows mode neg x) (inexact mode neg x) (tiny mode neg x && (unmasked || inexact mode neg x))
+overflow-flag mode unmaskedUE neg x = go (overflows mode neg x) (inexact mode neg x) (tiny mode neg x && (unmaskedUE || inexact mode neg x))
   where
     go : (o i u : Bool) → eqb ((cond o (result (withSign neg (overflowFields mode neg)) (bitOr OE PE)) (result (withSign neg (encode (delivered mode neg x))) (bitOr (flag PE i) (flag UE u)))) .flags / OE % 2) 1 ≡ o
     go true i u = refl

@@ -9,7 +9,7 @@ use lib.Pow.{pow-pos, pow-add}
 use lib.Ieee.{size}
 use lib.Ieee.Digits.{size-lt}
 use borrow.Author.Tests.{ltb-true, ltb-false}
-use Rattle.half.specs.Exact.{Magnitude, fraction, rootOf, denominator, whole, isNearest, outward}
+use Rattle.half.specs.Exact.{Magnitude, ratio, rootOf, denominator, whole, isNearest, outward}
 use Rattle.half.specs.Round.{significant, fine, unlimited, delivered}
 use Rattle.half.specs.declared.Mode.{Mode}
 use Rattle.half.proofs.Places.{size-large}
@@ -46,7 +46,7 @@ module _ (mode : Mode) (neg : Bool) (x : Magnitude) (hd : 0 < denominator x) (m 
 -- ---- an x above 0 is at least 1 / d, so 2 ^ 24 or more of the fine units
 
 at-least-one : (x : Magnitude) → 0 < left x 1 → right x 1 ≤ left x (2 ^ size (denominator x))
-at-least-one (fraction n d) h = let c : 1 * 2 ^ size d ≤ n * 2 ^ size d = mul-le-mul-right {m = 1} {n = n} (2 ^ size d) (omega arith) in omega (arith, size-lt d)
+at-least-one (ratio n d) h = let c : 1 * 2 ^ size d ≤ n * 2 ^ size d = mul-le-mul-right {m = 1} {n = n} (2 ^ size d) (omega arith) in omega (arith, size-lt d)
 at-least-one (rootOf n d) h =
     let P : ℕ = 2 ^ size d in
     let e : 1 * P ≤ P * P = mul-le-mul-right {m = 1} {n = P} P (pow-pos (size d)) in

@@ -40,27 +40,27 @@ whole-units x hd a b ha =
 -- ---- 1
 
 pub delivered-half : DeliveredHalfLaw
-delivered-half mode unmasked neg x hd fits = given.stands mode neg x hd fits unmasked
+delivered-half mode unmaskedUE neg x hd fits = given.stands mode neg x hd fits unmaskedUE
 
 -- the sign and the number that the laws below are about
-module _ (mode : Mode) (unmasked neg : Bool) (x : Magnitude) (hd : 0 < denominator x) (fits : overflows mode neg x ≡ false) where
-  sign : negative (halfOf mode unmasked neg x) ≡ neg
-  sign = (delivered-half mode unmasked neg x hd fits) .sign
+module _ (mode : Mode) (unmaskedUE neg : Bool) (x : Magnitude) (hd : 0 < denominator x) (fits : overflows mode neg x ≡ false) where
+  sign : negative (halfOf mode unmaskedUE neg x) ≡ neg
+  sign = (delivered-half mode unmaskedUE neg x hd fits) .sign
 
-  number : units (halfOf mode unmasked neg x) ≡ round.delivered mode neg x
-  number = (delivered-half mode unmasked neg x hd fits) .number
+  number : units (halfOf mode unmaskedUE neg x) ≡ round.delivered mode neg x
+  number = (delivered-half mode unmaskedUE neg x hd fits) .number
 
 -- ---- 2
 
-nearest-in : (mode : Mode) → isNearest mode ≡ true → (unmasked neg : Bool) (x : Magnitude) → 0 < denominator x → overflows mode neg x ≡ false → NearestTo x (halfOf mode unmasked neg x)
-nearest-in mode i unmasked neg x hd fits =
+nearest-in : (mode : Mode) → isNearest mode ≡ true → (unmaskedUE neg : Bool) (x : Magnitude) → 0 < denominator x → overflows mode neg x ≡ false → NearestTo x (halfOf mode unmaskedUE neg x)
+nearest-in mode i unmaskedUE neg x hd fits =
     let D : ℕ = round.delivered mode neg x in
-    let n : units (halfOf mode unmasked neg x) ≡ D = number mode unmasked neg x hd fits in
+    let n : units (halfOf mode unmaskedUE neg x) ≡ D = number mode unmaskedUE neg x hd fits in
     record {
       below = λ (h : ℕ) (f : isFinite h ≡ true). rw n (λ (l : D < units h). le-most x (D + units h) (2 ^ 25) (none-nearer 24 x hd mode neg i (units h) (half-on-grid h) .0 l));
       above = λ (h : ℕ) (f : isFinite h ≡ true). rw n (λ (l : units h < D). ge-least x (D + units h) (2 ^ 25) (none-nearer 24 x hd mode neg i (units h) (half-on-grid h) .1 l));
       even = λ (h : ℕ) (f : isFinite h ≡ true). rw n (λ (d : units h ≢ D) (e : Equals x (D + units h) (2 ^ 25)).
-          rw (given.half-is mode neg x hd fits unmasked) (signed-even neg (encode D) (tie-even 24 x hd mode neg i (units h) (half-on-grid h) d (equals-eq x (D + units h) (2 ^ 25) e))));
+          rw (given.half-is mode neg x hd fits unmaskedUE) (signed-even neg (encode D) (tie-even 24 x hd mode neg i (units h) (half-on-grid h) d (equals-eq x (D + units h) (2 ^ 25) e))));
     }
 
 pub nearest : NearestLaw
@@ -69,17 +69,17 @@ nearest = nearest-in _ refl
 -- ---- 3
 
 pub down : DownLaw
-down unmasked neg x hd fits =
+down unmaskedUE neg x hd fits =
     let g = directed.greatest Down neg neg x hd refl refl in
-    let s = sign Down unmasked neg x hd fits in
-    let n = number Down unmasked neg x hd fits in
+    let s = sign Down unmaskedUE neg x hd fits in
+    let n = number Down unmaskedUE neg x hd fits in
     record { fits = rw (s, n) (g .0); best = λ (h : ℕ) (f : isFinite h ≡ true) (l : HalfNotAbove h neg x). rw (s, n) (g .1 (negative h) (units h) (half-on-grid h) l) }
 
 pub up : UpLaw
-up unmasked neg x hd fits =
+up unmaskedUE neg x hd fits =
     let g = directed.greatest Up neg (not neg) x hd refl refl in
-    let s = sign Up unmasked neg x hd fits in
-    let n = number Up unmasked neg x hd fits in
+    let s = sign Up unmaskedUE neg x hd fits in
+    let n = number Up unmaskedUE neg x hd fits in
     record {
       fits = rw (s, n) (g .0);
       best = λ (h : ℕ) (f : isFinite h ≡ true) (l : HalfNotBelow h neg x).
@@ -87,9 +87,9 @@ up unmasked neg x hd fits =
     }
 
 pub toward-zero : TowardZeroLaw
-toward-zero unmasked neg x hd fits =
+toward-zero unmaskedUE neg x hd fits =
     let t = grid.toward-zero 24 x hd TowardZero neg refl refl in
-    let n : units (halfOf TowardZero unmasked neg x) ≡ round.delivered TowardZero neg x = number TowardZero unmasked neg x hd fits in
+    let n : units (halfOf TowardZero unmaskedUE neg x) ≡ round.delivered TowardZero neg x = number TowardZero unmaskedUE neg x hd fits in
     record {
       fits = rw n (ge-least x (round.delivered TowardZero neg x) (2 ^ 24) (t .0));
       best = λ (h : ℕ) (f : isFinite h ≡ true) (l : AtLeast x (units h) (2 ^ 24)). rw n (t .1 (units h) (half-on-grid h) (least-ge x (units h) (2 ^ 24) l));
@@ -109,13 +109,13 @@ differs o = (λ (e : not (isEq o) ≡ true) (q : o ≡ Ordering·eq). clash (rw 
     other Ordering·gt n = refl
 
 pub inexact : InexactLaw
-inexact mode unmasked neg x hd fits =
-    rw (given.inexact-flag mode neg x hd fits unmasked, number mode unmasked neg x hd fits) (differs (against x (round.delivered mode neg x) (2 ^ 24)))
+inexact mode unmaskedUE neg x hd fits =
+    rw (given.inexact-flag mode neg x hd fits unmaskedUE, number mode unmaskedUE neg x hd fits) (differs (against x (round.delivered mode neg x) (2 ^ 24)))
 
 -- ---- 5
 
 pub overflow-flag : OverflowFlagLaw
-overflow-flag mode unmasked neg x = rw (given.overflow-flag mode unmasked neg x) (
+overflow-flag mode unmaskedUE neg x = rw (given.overflow-flag mode unmaskedUE neg x) (
   leb-true (65536 * 2 ^ round.fine x) (round.unlimited mode neg x),
   le-leb (65536 * 2 ^ round.fine x) (round.unlimited mode neg x),
 )
@@ -131,7 +131,7 @@ after TowardZero false = refl
 after TowardZero true = refl
 
 pub overflow : OverflowLaw
-overflow mode unmasked neg x e = (given.over-half mode unmasked neg x e ∙ after mode neg, ap (λ (o : Outcome). o .flags) (given.over-is mode unmasked neg x e))
+overflow mode unmaskedUE neg x e = (given.over-half mode unmaskedUE neg x e ∙ after mode neg, ap (λ (o : Outcome). o .flags) (given.over-is mode unmaskedUE neg x e))
 
 pub overflow-grid : OverflowGridLaw
 overflow-grid = given.overflows-is
@@ -158,13 +158,13 @@ eleven-bits mode neg x hd a = exactness.eleven mode neg x hd (lt-of-le-of-lt (le
 -- ---- 8
 
 pub exact : ExactLaw
-exact mode unmasked x hd h small finite e =
+exact mode unmaskedUE x hd h small finite e =
     let s : Bool = negative h in
     let d : round.delivered mode s x ≡ units h = exactness.held mode s x hd (units h) (half-on-grid h) (equals-eq x (units h) (2 ^ 24) e) in
     let f : overflows mode s x ≡ false = given.overflows-is mode s x hd ∙ rw d (lt-leb (2 ^ 40) (units h) (finite-lt h finite)) in
     let i : against x (round.delivered mode s x) (2 ^ 24) ≡ Ordering·eq = rw d e in (
-      given.half-is mode s x hd f unmasked ∙ ap (λ (n : ℕ). withSign s n) (ap encode d ∙ encode-units h) ∙ signed-back h small,
-      given.inexact-flag mode s x hd f unmasked ∙ ap (λ (o : Ordering). not (isEq o)) i,
+      given.half-is mode s x hd f unmaskedUE ∙ ap (λ (n : ℕ). withSign s n) (ap encode d ∙ encode-units h) ∙ signed-back h small,
+      given.inexact-flag mode s x hd f unmaskedUE ∙ ap (λ (o : Ordering). not (isEq o)) i,
     )
 
 -- ---- 9
@@ -173,4 +173,4 @@ pub order : OrderLaw
 order mode neg x y hx hy l = ordered.order-kept x y hx hy (ordered.leq-ordered x y hx hy l) mode neg
 
 pub half-order : HalfOrderLaw
-half-order mode unmasked neg x y hx hy l = ordered.half-order x y hx hy (ordered.leq-ordered x y hx hy l) mode neg unmasked
+half-order mode unmaskedUE neg x y hx hy l = ordered.half-order x y hx hy (ordered.leq-ordered x y hx hy l) mode neg unmaskedUE

@@ -15,7 +15,7 @@ Le x a b = left x b ≤ right x a
 abbrev pub Ge : Magnitude → ℕ → ℕ → Type 0
 Ge x a b = right x a ≤ left x b
 
--- fractions with one denominator compare as their numerators do
+-- ratios with one denominator compare as their numerators do
 pub right-cmp : (x : Magnitude) → 0 < denominator x → (p q : ℕ) → compare (right x p) (right x q) ≡ compare p q
 right-cmp x hx p q = go (compare p q) (cmp p q)
   where

@@ -7,7 +7,7 @@ use native.Mathlib.Omega.{arith}
 use native.Mathlib.Nat.{lt-of-lt-of-le, not-le-of-lt}
 use borrow.Author.Tests.{lt-ltb, ltb-true, eqb-false, ne-eqb}
 use lib.Dec.{eqb, ltb}
-use Rattle.half.specs.Exact.{Magnitude, fraction, denominator, against, whole, isNearest, outward}
+use Rattle.half.specs.Exact.{Magnitude, ratio, denominator, against, whole, isNearest, outward}
 use Rattle.half.specs.Round.{tiny}
 use Rattle.half.specs.declared.Mode.{Mode}
 use Rattle.half.specs.declared.Mode.the-variants.{Nearest, Down, Up, TowardZero}
@@ -86,7 +86,7 @@ module _ (x : Magnitude) (hd : 0 < denominator x) where
   module _ (mode : Mode) (neg : Bool) (c : ℕ) (hc : c ≡ cond (isNearest mode) (1 + 1) (cond (outward mode neg) 3 0)) where
     same-tiny : tiny mode neg x ≡ (not (eqb t 0) && ltb t (8192 - c))
     same-tiny =
-        tiny-is x t hd placed mode neg ∙ sym (tiny-is (fraction t (2 ^ 27)) t (omega arith) (own-place t) mode neg)
+        tiny-is x t hd placed mode neg ∙ sym (tiny-is (ratio t (2 ^ 27)) t (omega arith) (own-place t) mode neg)
         ∙ sym (tiny-below mode neg t refl refl hc)
 
     small : {P : Type 0} → P ↔ (t < 8192 - c) → (tiny mode neg x ≡ true) ↔ (Above x 0 1 × P)

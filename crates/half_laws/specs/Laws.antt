@@ -1,6 +1,6 @@
 -- The rounding that is defined in half's specs/Exact.antt and Round.antt is IEEE 754's. proofs/Proved.antt has a proof of each law
--- under the law's name. Throughout, ± x is the exact value: x its magnitude, a fraction or a root, with a denominator above 0, and
--- `neg` its sign; `unmasked` says whether underflow is unmasked.
+-- under the law's name. Throughout, ± x is the exact value: x its magnitude, a ratio or a root, with a denominator above 0, and
+-- `neg` its sign; `unmaskedUE` says whether underflow is unmasked.
 use Prim.Native.Nat.{ℕ, _+_, _*_, _/_, _%_, _^_, _≤_, _<_}
 use mathlib.Core.Bool.{Bool, true, false, _&&_, _||_}
 use mathlib.Core.Logic.{_≢_, _↔_}
@@ -16,11 +16,11 @@ use Rattle.half_laws.specs.Values.{AtMost, AtLeast, Equals, Above, Below
 
 -- the half that ± x is rounded to
 abbrev pub halfOf : Mode → Bool → Bool → Magnitude → ℕ
-halfOf mode unmasked neg x = (roundedHalf mode unmasked neg x) .half
+halfOf mode unmaskedUE neg x = (roundedHalf mode unmaskedUE neg x) .half
 
 -- whether rounding ± x raises a flag, which is a power of two
 abbrev pub raises : ℕ → Mode → Bool → Bool → Magnitude → Bool
-raises flag mode unmasked neg x = eqb ((roundedHalf mode unmasked neg x) .flags / flag % 2) 1
+raises flag mode unmaskedUE neg x = eqb ((roundedHalf mode unmaskedUE neg x) .flags / flag % 2) 1
 
 -- ---- 0. Whole units: `whole x a b` is the q with q units a / b ≤ x < q + 1 units, of a root too
 abbrev pub WholeUnitsLaw : Type 0
@@ -37,8 +37,8 @@ pub record StandsFor (neg : Bool) (n h : ℕ) : Type 0 where
 
 -- Without overflow a half with the value's sign is delivered, also a zero, and stands for the exact value rounded on the half grid.
 abbrev pub DeliveredHalfLaw : Type 0
-DeliveredHalfLaw = (mode : Mode) (unmasked neg : Bool) (x : Magnitude) → 0 < denominator x → overflows mode neg x ≡ false
-    → StandsFor neg (delivered mode neg x) (halfOf mode unmasked neg x)
+DeliveredHalfLaw = (mode : Mode) (unmaskedUE neg : Bool) (x : Magnitude) → 0 < denominator x → overflows mode neg x ≡ false
+    → StandsFor neg (delivered mode neg x) (halfOf mode unmaskedUE neg x)
 
 -- ---- 2. To nearest, ties to even (IEEE 754, 4.3.1: roundTiesToEven)
 
@@ -51,7 +51,7 @@ pub record NearestTo (x : Magnitude) (r : ℕ) : Type 0 where
   pub even : (h : ℕ) → isFinite h ≡ true → units h ≢ units r → Equals x (units r + units h) (2 ^ 25) → r % 2 ≡ 0
 
 abbrev pub NearestLaw : Type 0
-NearestLaw = (unmasked neg : Bool) (x : Magnitude) → 0 < denominator x → overflows Nearest neg x ≡ false → NearestTo x (halfOf Nearest unmasked neg x)
+NearestLaw = (unmaskedUE neg : Bool) (x : Magnitude) → 0 < denominator x → overflows Nearest neg x ≡ false → NearestTo x (halfOf Nearest unmaskedUE neg x)
 
 -- ---- 3. The directed roundings (IEEE 754, 4.3.2)
 
@@ -72,26 +72,26 @@ pub record GreatestMagnitude (x : Magnitude) (r : ℕ) : Type 0 where
 
 -- roundTowardNegative
 abbrev pub DownLaw : Type 0
-DownLaw = (unmasked neg : Bool) (x : Magnitude) → 0 < denominator x → overflows Down neg x ≡ false → Greatest neg x (halfOf Down unmasked neg x)
+DownLaw = (unmaskedUE neg : Bool) (x : Magnitude) → 0 < denominator x → overflows Down neg x ≡ false → Greatest neg x (halfOf Down unmaskedUE neg x)
 
 -- roundTowardPositive
 abbrev pub UpLaw : Type 0
-UpLaw = (unmasked neg : Bool) (x : Magnitude) → 0 < denominator x → overflows Up neg x ≡ false → Least neg x (halfOf Up unmasked neg x)
+UpLaw = (unmaskedUE neg : Bool) (x : Magnitude) → 0 < denominator x → overflows Up neg x ≡ false → Least neg x (halfOf Up unmaskedUE neg x)
 
 -- roundTowardZero
 abbrev pub TowardZeroLaw : Type 0
-TowardZeroLaw = (unmasked neg : Bool) (x : Magnitude) → 0 < denominator x → overflows TowardZero neg x ≡ false → GreatestMagnitude x (halfOf TowardZero unmasked neg x)
+TowardZeroLaw = (unmaskedUE neg : Bool) (x : Magnitude) → 0 < denominator x → overflows TowardZero neg x ≡ false → GreatestMagnitude x (halfOf TowardZero unmaskedUE neg x)
 
 -- ---- 4. Inexact (IEEE 754, 7.6; 01: "PE if it differs from the exact value"), without overflow
 abbrev pub InexactLaw : Type 0
-InexactLaw = (mode : Mode) (unmasked neg : Bool) (x : Magnitude) → 0 < denominator x → overflows mode neg x ≡ false
-    → (raises PE mode unmasked neg x ≡ true) ↔ ¬ Equals x (units (halfOf mode unmasked neg x)) (2 ^ 24)
+InexactLaw = (mode : Mode) (unmaskedUE neg : Bool) (x : Magnitude) → 0 < denominator x → overflows mode neg x ≡ false
+    → (raises PE mode unmaskedUE neg x ≡ true) ↔ ¬ Equals x (units (halfOf mode unmaskedUE neg x)) (2 ^ 24)
 
 -- ---- 5. Overflow (IEEE 754, 7.4; 01: "Magnitude 65,536 or more: OE and PE, and infinity or 7BFF/FBFF by mode")
 
 -- OE exactly if the value rounded to 11 bits with no exponent limit, a number of units 2 ^ -(fine x), reaches 65,536
 abbrev pub OverflowFlagLaw : Type 0
-OverflowFlagLaw = (mode : Mode) (unmasked neg : Bool) (x : Magnitude) → (raises OE mode unmasked neg x ≡ true) ↔ (65536 * 2 ^ fine x ≤ unlimited mode neg x)
+OverflowFlagLaw = (mode : Mode) (unmaskedUE neg : Bool) (x : Magnitude) → (raises OE mode unmaskedUE neg x ≡ true) ↔ (65536 * 2 ^ fine x ≤ unlimited mode neg x)
 
 -- what is delivered then: the infinity, or the largest finite half where the mode leads toward zero
 abbrev pub afterOverflow : Mode → Bool → ℕ
@@ -105,8 +105,8 @@ afterOverflow TowardZero false = 0x7BFF
 afterOverflow TowardZero true = 0xFBFF
 
 abbrev pub OverflowLaw : Type 0
-OverflowLaw = (mode : Mode) (unmasked neg : Bool) (x : Magnitude) → overflows mode neg x ≡ true
-    → (halfOf mode unmasked neg x ≡ afterOverflow mode neg) × ((roundedHalf mode unmasked neg x) .flags ≡ bitOr OE PE)
+OverflowLaw = (mode : Mode) (unmaskedUE neg : Bool) (x : Magnitude) → overflows mode neg x ≡ true
+    → (halfOf mode unmaskedUE neg x ≡ afterOverflow mode neg) × ((roundedHalf mode unmaskedUE neg x) .flags ≡ bitOr OE PE)
 
 -- The value on the half grid tells the same: 65,536 is 2 ^ 40 units of 2 ^ -24.
 abbrev pub OverflowGridLaw : Type 0
@@ -127,8 +127,8 @@ TooLargeLaw = (mode : Mode) (neg : Bool) (x : Magnitude) → 0 < denominator x �
 
 -- ---- 6. Underflow (IEEE 754, 7.5, detected after rounding; 01: "UE if tiny and either UE is unmasked or PE holds"), without overflow
 abbrev pub UnderflowFlagLaw : Type 0
-UnderflowFlagLaw = (mode : Mode) (unmasked neg : Bool) (x : Magnitude) → overflows mode neg x ≡ false
-    → raises UE mode unmasked neg x ≡ (tiny mode neg x && (unmasked || raises PE mode unmasked neg x))
+UnderflowFlagLaw = (mode : Mode) (unmaskedUE neg : Bool) (x : Magnitude) → overflows mode neg x ≡ false
+    → raises UE mode unmaskedUE neg x ≡ (tiny mode neg x && (unmaskedUE || raises PE mode unmaskedUE neg x))
 
 -- Which exact values are tiny. 2 ^ -14 is the smallest normal number, 2047 / 2 ^ 25 the largest number of 11 bits below it, and
 -- 4095 / 2 ^ 26 the middle between: to nearest below the middle, where the mode leads away from zero up to the first, where it leads
@@ -162,8 +162,8 @@ ElevenBitsLaw = (mode : Mode) (neg : Bool) (x : Magnitude) → 0 < denominator x
 
 -- ---- 8. An exact value that is a finite half's is delivered as that half, in every mode, without PE
 abbrev pub ExactLaw : Type 0
-ExactLaw = (mode : Mode) (unmasked : Bool) (x : Magnitude) → 0 < denominator x → (h : ℕ) → h < 2 ^ 16 → isFinite h ≡ true → Equals x (units h) (2 ^ 24)
-    → (halfOf mode unmasked (negative h) x ≡ h) × (raises PE mode unmasked (negative h) x ≡ false)
+ExactLaw = (mode : Mode) (unmaskedUE : Bool) (x : Magnitude) → 0 < denominator x → (h : ℕ) → h < 2 ^ 16 → isFinite h ≡ true → Equals x (units h) (2 ^ 24)
+    → (halfOf mode unmaskedUE (negative h) x ≡ h) × (raises PE mode unmaskedUE (negative h) x ≡ false)
 
 -- ---- 9. Rounding keeps order: in one mode and sign, a larger magnitude is rounded to no smaller one
 abbrev pub OrderLaw : Type 0
@@ -172,5 +172,5 @@ OrderLaw = (mode : Mode) (neg : Bool) (x y : Magnitude) → 0 < denominator x �
 -- The halves too, with overflow or without: halves of one sign, read as numbers of 16 bits, are in the order of their magnitudes, the
 -- infinity last.
 abbrev pub HalfOrderLaw : Type 0
-HalfOrderLaw = (mode : Mode) (unmasked neg : Bool) (x y : Magnitude) → 0 < denominator x → 0 < denominator y → Leq x y
-    → halfOf mode unmasked neg x ≤ halfOf mode unmasked neg y
+HalfOrderLaw = (mode : Mode) (unmaskedUE neg : Bool) (x y : Magnitude) → 0 < denominator x → 0 < denominator y → Leq x y
+    → halfOf mode unmaskedUE neg x ≤ halfOf mode unmaskedUE neg y

@@ -1,12 +1,12 @@
--- How the laws compare an exact value with fractions, with halves and with another exact value.
+-- How the laws compare an exact value with ratios, with halves and with another exact value.
 use Prim.Native.Nat.{ℕ, _*_, _^_, _≤_, Ordering·lt, Ordering·eq, Ordering·gt}
 use mathlib.Core.Bool.{Bool, true, false, not}
 use mathlib.Core.Logic.{_≢_}
 use mathlib.Core.Path.{_≡_}
 use Rattle.half.specs.Format.{negative, units}
-use Rattle.half.specs.Exact.{Magnitude, fraction, rootOf, against}
+use Rattle.half.specs.Exact.{Magnitude, ratio, rootOf, against}
 
--- ---- an exact magnitude x and the fraction a / b: x ≤ a / b, x ≥ a / b, x = a / b, x > a / b, x < a / b
+-- ---- an exact magnitude x and the ratio a / b: x ≤ a / b, x ≥ a / b, x = a / b, x > a / b, x < a / b
 
 abbrev pub AtMost : Magnitude → ℕ → ℕ → Type 0
 AtMost x a b = against x a b ≢ Ordering·gt
@@ -23,10 +23,10 @@ Above x a b = against x a b ≡ Ordering·gt
 abbrev pub Below : Magnitude → ℕ → ℕ → Type 0
 Below x a b = against x a b ≡ Ordering·lt
 
--- ---- two exact magnitudes, x ≤ y: by `against` where one is a fraction, and two roots by their squares
+-- ---- two exact magnitudes, x ≤ y: by `against` where one is a ratio, and two roots by their squares
 abbrev pub Leq : Magnitude → Magnitude → Type 0
-Leq x (fraction m c) = AtMost x m c
-Leq (fraction n d) (rootOf m c) = AtLeast (rootOf m c) n d
+Leq x (ratio m c) = AtMost x m c
+Leq (ratio n d) (rootOf m c) = AtLeast (rootOf m c) n d
 Leq (rootOf n d) (rootOf m c) = n * c ≤ m * d
 
 -- ---- signed numbers: a sign, true for minus, and a magnitude; m and n are numbers of units 2 ^ -24

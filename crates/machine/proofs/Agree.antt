@@ -7,10 +7,9 @@ use native.Mathlib.Decide.{decLt}
 use native.Mathlib.Omega.{arith}
 use lib.ListN.{length, getD, List·getD-eq-default}
 use lib.Seq.{paste, length-paste}
-use Rattle.machine.specs.Lists.{Each}
-use Rattle.evex.specs.Bits.{numberAt}
+use Rattle.lists.specs.Lists.{Each, numberAt}
+use Rattle.lists.proofs.Tables.{paste-before, paste-inside, paste-after}
 use Rattle.machine.specs.TwoRuns.{EqualOpen}
-use Rattle.machine.proofs.Tables.{paste-before, paste-inside, paste-after}
 
 pub each-of : {P : ℕ → Type 0} (xs : List ℕ) → ((x : ℕ) → List·Memᴰ x xs → P x) → Each P xs
 each-of [] h = tt

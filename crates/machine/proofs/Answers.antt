@@ -23,7 +23,8 @@ use Rattle.machine.specs.Memory.{needsOutside}
 use Rattle.machine.specs.Lanes.{gathered, raisesUnmasked, recorded, controlAfter}
 use Rattle.machine.specs.Step.{ofFields, beforeSeven, conditions, answerOf, refused, stopped, completed, step}
 use Rattle.machine.specs.Answers.{InOrder, Leaves, Answers, BytesAfter}
-use Rattle.machine.proofs.First.{NonZero, in-order}
+use Rattle.lists.proofs.First.{NonZero}
+use Rattle.machine.proofs.First.{in-order}
 use Rattle.machine.proofs.Ends.{before-non-zero, by-decoded, Way, early, fields, way, step-early, step-decoded}
 use Rattle.machine.proofs.Flags.{raised-below}
 

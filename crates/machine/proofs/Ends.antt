@@ -10,7 +10,8 @@ use native.Mathlib.Omega.{arith}
 use borrow.Author.Tests.{eq-eqb, ne-eqb, le-leb, lt-leb, eqb-true, leb-false, not-false}
 use lib.Dec.{eqb, lit≤}
 use lib.ListN.{length}
-use Rattle.evex.specs.First.{firstOf, NoneHolds}
+use Rattle.lists.specs.Lists.{firstOf, NoneHolds}
+use Rattle.lists.proofs.First.{NonZero, first-append, first-found, holds-none}
 use Rattle.evex.specs.Decode.{numberOf, refusals, decoded}
 use Rattle.evex.specs.declared.Instruction.{Instruction}
 use Rattle.evex.specs.declared.Refusal.{Refusal}
@@ -23,7 +24,6 @@ use Rattle.machine.specs.Memory.{needsOutside}
 use Rattle.machine.specs.Lanes.{gathered, raisesUnmasked}
 use Rattle.machine.specs.Step.{ofFields, wrongVectorFile, highControlBit, outsideMemory, unmaskedException, beforeSeven, conditions, answerOf, refused, stopped, completed, step}
 use Rattle.machine.specs.TwoRuns.{IsDecoded}
-use Rattle.machine.proofs.First.{NonZero, first-append, first-found, holds-none}
 
 -- ---- the tests of 1 and 2
 

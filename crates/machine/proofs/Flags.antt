@@ -9,7 +9,9 @@ use Rattle.half.specs.Format.{isNan, isSignalling, isSubnormal}
 use Rattle.half.specs.Exact.{Magnitude}
 use Rattle.half.specs.Round.{IE, DE, ZE, UE, PE, flag, result, tiny, inexact, overflows, roundedHalf}
 use Rattle.numbers.specs.Numbers.{modeOf, yes, answered}
-use Rattle.half.specs.Operations.{some, invalid, exactly, nanResult, exactSum, withDenormals, unlessNan, halfAdd, halfSubtract, halfMultiply, halfDivide, halfRoot, halfMultiplyAdd}
+use Rattle.lists.specs.Lists.{some}
+use Rattle.lists.proofs.Tables.{or-table-below}
+use Rattle.half.specs.Operations.{invalid, exactly, nanResult, exactSum, withDenormals, unlessNan, halfAdd, halfSubtract, halfMultiply, halfDivide, halfRoot, halfMultiplyAdd}
 use Rattle.half.specs.declared.Mode.{Mode}
 use Rattle.numbers.specs.declared.ModeNumber.{ModeNumber}
 use Rattle.numbers.specs.declared.ModeNumber.the-variants.{Means, Above}
@@ -19,7 +21,6 @@ use Rattle.evex.specs.declared.Operation.the-variants.{Add, Multiply, Subtract,
 use Rattle.machine.specs.State.{State}
 use Rattle.machine.specs.Lanes.{Sources, laneOutcome, laneResult, raised}
 use Rattle.evex.specs.declared.Instruction.{Instruction}
-use Rattle.machine.proofs.Tables.{or-table-below}
 
 pub record Six (o : Outcome) : Type 0 where
   pub six : o .flags < 64

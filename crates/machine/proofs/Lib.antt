@@ -1,4 +1,3 @@
-pub mod Tables
 pub mod First
 pub mod Ends
 pub mod Flags

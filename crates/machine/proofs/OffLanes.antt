@@ -14,14 +14,13 @@ use Rattle.evex.specs.Decode.{decoded}
 use Rattle.evex.specs.declared.Instruction.{Instruction}
 use Rattle.evex.specs.declared.Decoded.the-variants.{Fields}
 use Rattle.evex.proofs.Bounds.{bounds}
-use Rattle.half.specs.Operations.{some}
-use Rattle.machine.specs.Lists.{table}
+use Rattle.lists.specs.Lists.{some, table}
+use Rattle.lists.proofs.Tables.{some-has, some-member, table-member, member-table, meets, or-meets}
 use Rattle.machine.specs.State.{State}
 use Rattle.machine.specs.Memory.{on, bytesRead, needsOutside}
 use Rattle.machine.specs.Lanes.{Sources, unmasked, laneOf, raised, raisesUnmasked}
 use Rattle.machine.specs.TwoRuns.{Needs}
 use Rattle.machine.specs.OffLanes.{Faults, Raises, Flags, OffLanes}
-use Rattle.machine.proofs.Tables.{some-has, some-member, table-member, member-table, meets, or-meets}
 
 module _ (s : State) (code : List ℕ) (i : Instruction) (fields : decoded code ≡ Fields i) where
   on-below : (j : ℕ) → on s i j ≡ true → j < 32

@@ -12,7 +12,7 @@ use Rattle.evex.specs.List.{rows}
 use Rattle.evex.specs.Fields.{takesSib, headOf, listed, first, registerForm, embeddedRounding, lanes, rounding, hasSib, baseBits, indexOf, noBase, baseOf, displacementAt, displacementSize, N, displacementOf, second, instruction}
 use Rattle.evex.specs.Fields as fields
 use Rattle.evex.specs.Decode.{noBytes, wrongFirstByte, fewerThanSixBytes, wrongFixedBits, notInList, reservedLength, zeroingWithoutMask, extraSource, bytesMissing, longerThanFifteenBytes, refusals, decoded}
-use Rattle.machine.specs.Lists.{table}
+use Rattle.lists.specs.Lists.{table}
 use Rattle.machine.specs.Memory.{addressFrom, on, bytesRead, needsOutside}
 use Rattle.machine.specs.Lanes.{registerHalves, memoryHalves, gathered, laneResult, results, raised, raisesUnmasked, controlAfter, newRegister, vectorsAfter}
 use Rattle.machine.specs.Step.{wrongVectorFile, highControlBit, outsideMemory, unmaskedException, beforeSeven, conditions, answerOf, stopped, completed, step}

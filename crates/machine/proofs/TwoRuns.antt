@@ -16,13 +16,13 @@ use Rattle.evex.specs.declared.Operand.{Operand}
 use Rattle.evex.specs.declared.Operand.the-variants as operand
 use Rattle.evex.specs.declared.Instruction.{Instruction}
 use Rattle.evex.proofs.Bounds.{bounds}
-use Rattle.machine.specs.Lists.{Each}
+use Rattle.lists.specs.Lists.{Each}
+use Rattle.lists.proofs.Tables.{table-equal, length-table, getD-table, part-at}
 use Rattle.machine.specs.State.{State, registerAt, lanePlaces}
 use Rattle.machine.specs.Memory.{on, nextPointer, bytesRead, needsOutside}
 use Rattle.machine.specs.Lanes.{Sources, registerHalves, memoryHalves, firstHalves, secondHalves, gathered, results, raised, raisesUnmasked, controlAfter, newByte, newRegister, vectorsAfter}
 use Rattle.machine.specs.Step.{wrongVectorFile, highControlBit, beforeSeven, refused, stopped, completed, step, run}
 use Rattle.machine.specs.TwoRuns.{EqualOpen, laneNumber, Alike, AlikeAfter, AlikeThroughout, HiddenUnused, HiddenUnusedThroughout, TwoRuns}
-use Rattle.machine.proofs.Tables.{table-equal, length-table, getD-table, part-at}
 use Rattle.machine.proofs.Agree.{each-of, equal-at, numbers-equal, paste-equal}
 use Rattle.machine.proofs.Ends.{Way, early, fields, way, decoded-size, step-early, step-decoded}
 

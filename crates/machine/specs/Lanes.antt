@@ -12,7 +12,8 @@ use Rattle.half.specs.Operations.{halfAdd, halfSubtract, halfMultiply, halfDivi
 use Rattle.half.specs.declared.Mode.{Mode}
 use Rattle.half.specs.declared.Outcome.{Outcome}
 use Rattle.numbers.specs.declared.Rounded.{Rounded}
-use Rattle.evex.specs.Bits.{bits, numberAt}
+use Rattle.lists.specs.Lists.{orAll, table, numberAt}
+use Rattle.evex.specs.Bits.{bits}
 use Rattle.evex.specs.declared.Operation.{Operation}
 use Rattle.evex.specs.declared.Operation.the-variants.{Add, Multiply, Subtract, Divide, SquareRoot, Fused132, Fused213, Fused231}
 use Rattle.evex.specs.declared.Rounding.{Rounding}
@@ -22,7 +23,6 @@ use Rattle.evex.specs.declared.Source.the-variants as source
 use Rattle.evex.specs.declared.Operand.{Operand}
 use Rattle.evex.specs.declared.Operand.the-variants as operand
 use Rattle.evex.specs.declared.Instruction.{Instruction}
-use Rattle.machine.specs.Lists.{table, orAll}
 use Rattle.machine.specs.State.{State, registerAt, lanePlaces, unmaskedFlags, modeNumber}
 use Rattle.machine.specs.Memory.{addressFrom, wordFrom, wordBytes, on, nextPointer}
 

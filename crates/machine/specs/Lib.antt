@@ -1,5 +1,4 @@
 -- What a reader opens, in this order.
-pub mod Lists
 pub mod State
 pub mod Memory
 pub mod Lanes

@@ -14,8 +14,7 @@ use Rattle.evex.specs.declared.Address.{Address}
 use Rattle.evex.specs.declared.Operand.{Operand}
 use Rattle.evex.specs.declared.Operand.the-variants as operand
 use Rattle.evex.specs.declared.Instruction.{Instruction}
-use Rattle.half.specs.Operations.{some}
-use Rattle.machine.specs.Lists.{table}
+use Rattle.lists.specs.Lists.{some, table}
 use Rattle.machine.specs.State.{State}
 
 -- ---- "Addresses are sums modulo 2 to the 64": by the general registers, and where the next instruction stands

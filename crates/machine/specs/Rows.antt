@@ -37,7 +37,7 @@ numberOfMode TowardZero = 3
 
 -- the mode in bits 13 and 14; all exceptions masked, or all but UE (bit 11)
 abbrev controlOf : Row → ℕ
-controlOf r = numberOfMode (r .mode) * 2 ^ 13 + cond (r .unmasked) 0x1780 0x1F80
+controlOf r = numberOfMode (r .mode) * 2 ^ 13 + cond (r .unmaskedUE) 0x1780 0x1F80
 
 -- the row's state, with d in lane 0 of the destination; bit 0 of mask register 1 alone is one
 abbrev rowState : Row → ℕ → ℕ → ℕ → State
@@ -57,7 +57,7 @@ start r = rowState r (r .c) (controlOf r) 0
 
 abbrev pub after : Row → Stepped
 after r =
-    cond (r .unmasked)
+    cond (r .unmaskedUE)
     (record { answer = record { number = 8; length = 0 }; state = rowState r (r .c) (bitOr (controlOf r) (r .gives .flags)) 0 })
     (record { answer = record { number = 0; length = 6 }; state = rowState r (r .gives .half) (bitOr (controlOf r) (r .gives .flags)) 6 })
 

@@ -1,4 +1,4 @@
-// The half arithmetic for callers that have no enum, as C and the machine: a mode is a number, and one above 3 is answered 9.
+// The half arithmetic for callers that have no enum, as C: a mode is a number, and one above 3 is answered 9.
 ghost use mathlib.Core.Path.{_≡_};
 ghost use Rattle.numbers.specs.Numbers.{modeOf, yes, answered};
 ghost use Rattle.half.specs.Operations.{halfAdd, halfSubtract, halfMultiply, halfDivide, halfRoot, halfMultiplyAdd};
@@ -11,7 +11,7 @@ use half::root;
 use half::sum;
 
 // What the number of a mode says.
-pub enum ModeNumber {
+enum ModeNumber {
     Means(Mode),
     Above,
 }
@@ -25,7 +25,7 @@ pub struct Rounded {
 }
 
 // The mode of a number.
-pub fn mode_of(number: u32) -> ModeNumber
+fn mode_of(number: u32) -> ModeNumber
     ensures { λ r. ⌜ r ≡ modeOf number ⌝ }
 {
     match number {
@@ -57,57 +57,57 @@ fn refused() -> Rounded
     }
 }
 
-pub fn add(a: u16, b: u16, mode: u32, unmasked: u32) -> Rounded
-    ensures { λ r. ⌜ r ≡ answered (modeOf mode) (λ (m : Mode). halfAdd m (yes unmasked) a b) ⌝ }
+pub fn add(mode: u32, unmasked_ue: u32, a: u16, b: u16) -> Rounded
+    ensures { λ r. ⌜ r ≡ answered (modeOf mode) (λ (m : Mode). halfAdd m (yes «unmasked_ue») a b) ⌝ }
 {
     let ModeNumber::Means(m) = mode_of(mode) else {
         return refused();
     };
-    done(sum::add(m, unmasked != 0, a, b))
+    done(sum::add(m, unmasked_ue != 0, a, b))
 }
 
-pub fn subtract(a: u16, b: u16, mode: u32, unmasked: u32) -> Rounded
-    ensures { λ r. ⌜ r ≡ answered (modeOf mode) (λ (m : Mode). halfSubtract m (yes unmasked) a b) ⌝ }
+pub fn subtract(mode: u32, unmasked_ue: u32, a: u16, b: u16) -> Rounded
+    ensures { λ r. ⌜ r ≡ answered (modeOf mode) (λ (m : Mode). halfSubtract m (yes «unmasked_ue») a b) ⌝ }
 {
     let ModeNumber::Means(m) = mode_of(mode) else {
         return refused();
     };
-    done(sum::subtract(m, unmasked != 0, a, b))
+    done(sum::subtract(m, unmasked_ue != 0, a, b))
 }
 
-pub fn multiply(a: u16, b: u16, mode: u32, unmasked: u32) -> Rounded
-    ensures { λ r. ⌜ r ≡ answered (modeOf mode) (λ (m : Mode). halfMultiply m (yes unmasked) a b) ⌝ }
+pub fn multiply(mode: u32, unmasked_ue: u32, a: u16, b: u16) -> Rounded
+    ensures { λ r. ⌜ r ≡ answered (modeOf mode) (λ (m : Mode). halfMultiply m (yes «unmasked_ue») a b) ⌝ }
 {
     let ModeNumber::Means(m) = mode_of(mode) else {
         return refused();
     };
-    done(product::multiply(m, unmasked != 0, a, b))
+    done(product::multiply(m, unmasked_ue != 0, a, b))
 }
 
-pub fn divide(a: u16, b: u16, mode: u32, unmasked: u32) -> Rounded
-    ensures { λ r. ⌜ r ≡ answered (modeOf mode) (λ (m : Mode). halfDivide m (yes unmasked) a b) ⌝ }
+pub fn divide(mode: u32, unmasked_ue: u32, a: u16, b: u16) -> Rounded
+    ensures { λ r. ⌜ r ≡ answered (modeOf mode) (λ (m : Mode). halfDivide m (yes «unmasked_ue») a b) ⌝ }
 {
     let ModeNumber::Means(m) = mode_of(mode) else {
         return refused();
     };
-    done(quotient::divide(m, unmasked != 0, a, b))
+    done(quotient::divide(m, unmasked_ue != 0, a, b))
 }
 
-pub fn square_root(a: u16, mode: u32, unmasked: u32) -> Rounded
-    ensures { λ r. ⌜ r ≡ answered (modeOf mode) (λ (m : Mode). halfRoot m (yes unmasked) a) ⌝ }
+pub fn square_root(mode: u32, unmasked_ue: u32, a: u16) -> Rounded
+    ensures { λ r. ⌜ r ≡ answered (modeOf mode) (λ (m : Mode). halfRoot m (yes «unmasked_ue») a) ⌝ }
 {
     let ModeNumber::Means(m) = mode_of(mode) else {
         return refused();
     };
-    done(root::square_root(m, unmasked != 0, a))
+    done(root::square_root(m, unmasked_ue != 0, a))
 }
 
 // a * b + c
-pub fn multiply_add(a: u16, b: u16, c: u16, mode: u32, unmasked: u32) -> Rounded
-    ensures { λ r. ⌜ r ≡ answered (modeOf mode) (λ (m : Mode). halfMultiplyAdd m (yes unmasked) a b c) ⌝ }
+pub fn multiply_add(mode: u32, unmasked_ue: u32, a: u16, b: u16, c: u16) -> Rounded
+    ensures { λ r. ⌜ r ≡ answered (modeOf mode) (λ (m : Mode). halfMultiplyAdd m (yes «unmasked_ue») a b c) ⌝ }
 {
     let ModeNumber::Means(m) = mode_of(mode) else {
         return refused();
     };
-    done(fused::multiply_add(m, unmasked != 0, a, b, c))
+    done(fused::multiply_add(m, unmasked_ue != 0, a, b, c))
 }

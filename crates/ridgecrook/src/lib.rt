@@ -13,35 +13,35 @@ use numbers::Rounded;
 pub extern "C" fn ridgecrook_add(a: u16, b: u16, mode: u32, underflow_unmasked: u32) -> Rounded
     ensures { λ r. ⌜ r ≡ answered (modeOf mode) (λ (m : Mode). halfAdd m (yes «underflow_unmasked») a b) ⌝ }
 {
-    numbers::add(a, b, mode, underflow_unmasked)
+    numbers::add(mode, underflow_unmasked, a, b)
 }
 
 #[no_mangle]
 pub extern "C" fn ridgecrook_subtract(a: u16, b: u16, mode: u32, underflow_unmasked: u32) -> Rounded
     ensures { λ r. ⌜ r ≡ answered (modeOf mode) (λ (m : Mode). halfSubtract m (yes «underflow_unmasked») a b) ⌝ }
 {
-    numbers::subtract(a, b, mode, underflow_unmasked)
+    numbers::subtract(mode, underflow_unmasked, a, b)
 }
 
 #[no_mangle]
 pub extern "C" fn ridgecrook_multiply(a: u16, b: u16, mode: u32, underflow_unmasked: u32) -> Rounded
     ensures { λ r. ⌜ r ≡ answered (modeOf mode) (λ (m : Mode). halfMultiply m (yes «underflow_unmasked») a b) ⌝ }
 {
-    numbers::multiply(a, b, mode, underflow_unmasked)
+    numbers::multiply(mode, underflow_unmasked, a, b)
 }
 
 #[no_mangle]
 pub extern "C" fn ridgecrook_divide(a: u16, b: u16, mode: u32, underflow_unmasked: u32) -> Rounded
     ensures { λ r. ⌜ r ≡ answered (modeOf mode) (λ (m : Mode). halfDivide m (yes «underflow_unmasked») a b) ⌝ }
 {
-    numbers::divide(a, b, mode, underflow_unmasked)
+    numbers::divide(mode, underflow_unmasked, a, b)
 }
 
 #[no_mangle]
 pub extern "C" fn ridgecrook_square_root(a: u16, mode: u32, underflow_unmasked: u32) -> Rounded
     ensures { λ r. ⌜ r ≡ answered (modeOf mode) (λ (m : Mode). halfRoot m (yes «underflow_unmasked») a) ⌝ }
 {
-    numbers::square_root(a, mode, underflow_unmasked)
+    numbers::square_root(mode, underflow_unmasked, a)
 }
 
 // a * b + c
@@ -55,7 +55,7 @@ pub extern "C" fn ridgecrook_fused_multiply_add(
 ) -> Rounded
     ensures { λ r. ⌜ r ≡ answered (modeOf mode) (λ (m : Mode). halfMultiplyAdd m (yes «underflow_unmasked») a b c) ⌝ }
 {
-    numbers::multiply_add(a, b, c, mode, underflow_unmasked)
+    numbers::multiply_add(mode, underflow_unmasked, a, b, c)
 }
 
 #[no_mangle]

@@ -5,7 +5,7 @@ use mathlib.Core.Path.{_≡_}
 use mathlib.Core.Bool.{false}
 use mathlib.Core.List.{List}
 use lib.Dec.{eqb}
-use Rattle.evex.specs.First.{firstOf}
+use Rattle.lists.specs.Lists.{firstOf}
 use Rattle.machine.specs.State.{State}
 use Rattle.saved.specs.Form.{savedForm, loadedState}
 use Rattle.saved.specs.Saved.{saveConditions, save, loadConditions, load}

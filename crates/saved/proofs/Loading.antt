@@ -7,10 +7,10 @@ use native.Mathlib.Omega.{arith}
 use borrow.Author.Tests.{ne-eqb, le-leb, lt-leb}
 use lib.ListN.{length, getD, take, drop, length-drop}
 use lib.Seq.{take-all}
-use Rattle.machine.specs.Lists.{table}
+use Rattle.lists.specs.Lists.{table}
+use Rattle.lists.proofs.Tables.{table-equal}
 use Rattle.machine.specs.State.{State}
 use Rattle.machine.specs.Step.{wrongVectorFile, highControlBit}
-use Rattle.machine.proofs.Tables.{table-equal}
 use Rattle.saved.specs.Form.{valueFrom, numberIn, loadedState}
 use Rattle.saved.specs.Saved.{wrongSize, wrongLength, wrongVersion, loadConditions, load}
 use Rattle.saved.proofs.Slices.{part-part}

@@ -12,7 +12,7 @@ use lib.ListN.{length, getD, take}
 use lib.Pow.{pow-add}
 use lib.Seq.{take-suc, take-all}
 use Rattle.saved.specs.Form.{big, valueFrom}
-use Rattle.machine.specs.Lists.{Each}
+use Rattle.lists.specs.Lists.{Each}
 
 pub power-pos : (n : ℕ) → 0 < 256 ^ n
 power-pos n = one-le-pow n 256 (lit≤ tt)

@@ -4,9 +4,10 @@ use Prim.Native.Nat.{ℕ}
 use mathlib.Core.List.{List}
 use native.Mathlib.Omega.{arith}
 use borrow.Author.Tests.{ne-eqb}
-use Rattle.evex.specs.First.{firstOf}
+use Rattle.lists.specs.Lists.{firstOf}
+use Rattle.lists.proofs.First.{NonZero}
 use Rattle.machine.specs.State.{State}
-use Rattle.machine.proofs.First.{NonZero, in-order}
+use Rattle.machine.proofs.First.{in-order}
 use Rattle.saved.specs.Saved.{saveConditions, save, loadConditions, load}
 use Rattle.saved.specs.Refusals.{SaveRefusals, LoadRefusals}
 

@@ -9,8 +9,8 @@ use native.Mathlib.Numerals.{add-one}
 use native.Mathlib.Omega.{arith}
 use lib.ListN.{length, getD, take, drop, length-append, length-take}
 use lib.Seq.{take-add, take-all}
-use Rattle.machine.specs.Lists.{table, Each}
-use Rattle.machine.proofs.Tables.{table-equal, table-next, getD-table, is-table}
+use Rattle.lists.specs.Lists.{Each, table}
+use Rattle.lists.proofs.Tables.{table-equal, table-next, getD-table, is-table}
 use Rattle.saved.specs.Form.{big, valueFrom, numberIn, registers}
 use Rattle.saved.proofs.Slices.{length-part, part-first, part-second, each-part, each-at}
 use Rattle.saved.proofs.Numbers.{length-big, value-big, big-value}

@@ -7,7 +7,7 @@ use native.Mathlib.Nat.{suc-add, zero-add}
 use native.Mathlib.Omega.{arith}
 use lib.ListN.{length, getD, take, drop, length-drop}
 use lib.Seq.{take-take, drop-drop, take-all, take-add, take-nil, drop-nil, length-take-le, take-append-le, drop-append-le, drop-at}
-use Rattle.machine.specs.Lists.{Each}
+use Rattle.lists.specs.Lists.{Each}
 
 module _ {A : Type 0} where
   drop-take : (n m : ℕ) (l : List A) → drop n (take (n + m) l) ≡ take m (drop n l)

@@ -9,11 +9,10 @@ use borrow.Author.Tests.{eqb-true, eq-eqb, lt-leb, leb-false, not-false}
 use lib.Dec.{eqb, lit≤}
 use lib.ListN.{length, getD, take, drop, length-drop, take-append-drop}
 use lib.Seq.{getD-take, getD-drop, drop-cons}
-use Rattle.evex.specs.First.{NoneHolds}
-use Rattle.machine.specs.Lists.{table, Each}
+use Rattle.lists.specs.Lists.{Each, table, NoneHolds}
+use Rattle.lists.proofs.First.{none-holds, holds-none}
 use Rattle.machine.specs.State.{State}
 use Rattle.machine.specs.Step.{wrongVectorFile, highControlBit}
-use Rattle.machine.proofs.First.{none-holds, holds-none}
 use Rattle.saved.specs.Form.{big, valueFrom, numberIn, registers, numbers, savedForm, loadedState}
 use Rattle.saved.specs.Saved.{wrongSize, saveConditions, Save, save, wrongLength, wrongVersion, loadConditions, Load, load, Held, LoadAfterSave, SaveAfterLoad}
 use Rattle.saved.proofs.Slices.{part-part, part-next, length-part, each-part}

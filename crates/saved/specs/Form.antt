@@ -2,7 +2,7 @@
 use Prim.Native.Nat.{ℕ, zero, suc, _+_, _*_, _/_, _%_, _^_}
 use mathlib.Core.List.{List, [], _∷_, _++_, flatten}
 use lib.ListN.{getD, take, drop}
-use Rattle.machine.specs.Lists.{table}
+use Rattle.lists.specs.Lists.{table}
 use Rattle.machine.specs.State.{State}
 
 -- ---- numbers, "all big-endian"

@@ -5,8 +5,7 @@ use mathlib.Core.List.{List, [], _∷_}
 use mathlib.Core.Path.{_≡_}
 use lib.Dec.{eqb}
 use lib.ListN.{length, getD}
-use Rattle.evex.specs.First.{firstOf}
-use Rattle.machine.specs.Lists.{Each}
+use Rattle.lists.specs.Lists.{Each, firstOf}
 use Rattle.machine.specs.State.{State}
 use Rattle.machine.specs.Step.{wrongVectorFile, highControlBit}
 use Rattle.saved.specs.Form.{numberIn, followingSize, savedSize, savedForm, loadedState}

@@ -2,7 +2,7 @@
 ghost use mathlib.Core.Path.{_≡_};
 ghost use Prim.Native.Nat.{_*_, _/_, _%_, _^_, _≤_, _<_};
 ghost use lib.ListN.{length};
-ghost use Rattle.machine.specs.Lists.{table};
+ghost use Rattle.lists.specs.Lists.{table};
 ghost use Rattle.saved.specs.Form.{big, valueFrom, numberIn, registers};
 
 fn wide(x: u8) -> u64

@@ -10,9 +10,8 @@ use native.Mathlib.Omega.{arith}
 use lib.Bits.{bitOr}
 use lib.ListN.{length, getD, set, length-set}
 use lib.Seq.{getD-set-same, getD-set-other}
-use Rattle.half.specs.Operations.{some}
-use Rattle.machine.specs.Lists.{table, orAll}
-use Rattle.machine.proofs.Tables.{is-table, table-member, some-has, or-next, some-next}
+use Rattle.lists.specs.Lists.{some, orAll, table}
+use Rattle.lists.proofs.Tables.{is-table, table-member, some-has, or-next, some-next}
 
 -- a list of n numbers that are f's up to j, and d's from there on
 pub record Filled (f : ℕ → ℕ) (n : ℕ) (d l : List ℕ) (j : ℕ) : Type 0 where

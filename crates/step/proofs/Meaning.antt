@@ -15,14 +15,13 @@ use Rattle.evex.specs.declared.Operand.the-variants as operand
 use Rattle.evex.specs.declared.Instruction.{Instruction}
 use Rattle.evex.specs.declared.Decoded.the-variants.{Fields}
 use Rattle.evex.specs.Decode.{decoded}
-use Rattle.half.specs.Operations.{some}
-use Rattle.machine.specs.Lists.{table}
+use Rattle.lists.specs.Lists.{some, table}
+use Rattle.lists.proofs.Tables.{table-equal, getD-table}
 use Rattle.machine.specs.State.{State, Stepped, registerAt, steppedOf}
 use Rattle.machine.specs.Memory.{isOn, on, nextPointer, bytesRead, needsOutside}
 use Rattle.machine.specs.Lanes.{Sources, roundingMode, unmasked, underflowUnmasked, recorded, gathered, registerHalves, firstHalves, secondHalves, results, raised, raisesUnmasked, controlAfter, newRegister, vectorsAfter}
 use Rattle.machine.specs.Step.{refused, stopped, completed, step}
 use Rattle.machine.proofs.Ends.{refuses-memory, stops, completes}
-use Rattle.machine.proofs.Tables.{table-equal, getD-table}
 use Rattle.step.specs.declared.lanes.Results.{Results}
 use Rattle.step.specs.Work.{keptBy, wordsOutside, outside, resultsWhere, storedBytes, storedFile, Left, leftOf, finished, executed}
 

@@ -8,7 +8,7 @@ use native.Mathlib.Nat.{div-one}
 use native.Mathlib.Omega.{arith}
 use lib.ListN.{getD, set, take, drop}
 use lib.Seq.{drop-drop}
-use Rattle.machine.proofs.Tables.{length-table, paste-whole}
+use Rattle.lists.proofs.Tables.{length-table, paste-whole}
 use Rattle.step.specs.Work.{byteWhere, storedBytes, storedFile}
 use Rattle.step.proofs.Filling.{Filled, more, same}
 

@@ -6,7 +6,7 @@ use mathlib.Core.Bool.{Bool, true, false, _&&_, _||_, true≢false}
 use native.Mathlib.Omega.{arith}
 use borrow.Author.Tests.{leb-false}
 use lib.Dec.{leb}
-use Rattle.half.specs.Operations.{some}
+use Rattle.lists.specs.Lists.{some}
 use Rattle.machine.specs.Memory.{wordFrom, wordBytes}
 use Rattle.step.specs.Work.{wordsOutside}
 use Rattle.step.proofs.Filling.{nowhere}

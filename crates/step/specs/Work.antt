@@ -16,8 +16,7 @@ use Rattle.evex.specs.declared.Instruction.{Instruction}
 use Rattle.evex.specs.declared.Decoded.{Decoded}
 use Rattle.evex.specs.declared.Decoded.the-variants.{Fields, Refused}
 use Rattle.machine.specs.declared.Answer.{Answer}
-use Rattle.half.specs.Operations.{some}
-use Rattle.machine.specs.Lists.{table, orAll}
+use Rattle.lists.specs.Lists.{some, orAll, table}
 use Rattle.machine.specs.State.{State, Stepped, registerAt}
 use Rattle.machine.specs.Memory.{addressFrom, wordFrom, wordBytes, needsOutside}
 use Rattle.machine.specs.Lanes.{lanesOn, laneResult, unmasked, recorded, gathered, raisesUnmasked}

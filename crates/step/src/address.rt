@@ -5,7 +5,7 @@ ghost use mathlib.Core.Bool.{_&&_};
 ghost use lib.Dec.{leb};
 ghost use Rattle.evex.specs.Bits.{isSet};
 ghost use Rattle.evex.proofs.Bounds.{BaseIn, IndexIn, OperandIn};
-ghost use Rattle.half.specs.Operations.{some};
+ghost use Rattle.lists.specs.Lists.{some};
 ghost use Rattle.machine.specs.Memory.{wrapped, baseValue, indexValue, addressFrom, wordFrom, wordBytes};
 ghost use Rattle.step.specs.Work.{wordsOutside, outside};
 use super::mask::has;

@@ -6,7 +6,7 @@ use native.Mathlib.Omega.{arith}
 use borrow.Author.Tests.{not-true, not-false}
 use borrow.Author.Needs.{needs}
 use lib.ListN.{length-take, length-drop}
-use Rattle.machine.specs.Lists.{table}
+use Rattle.lists.specs.Lists.{table}
 use Rattle.command.specs.Command.{badInput, blank, isLaidOut}
 use Rattle.command.proofs.Input.{LaidOut, laid-out, bad-layout, bad-load, good-lines}
 use Rattle.command.proofs.print.Statement.{statement}

@@ -5,8 +5,8 @@ use mathlib.Core.Path.{_≡_, refl}
 use native.Mathlib.Nat.{add-zero}
 use native.Mathlib.Omega.{arith}
 use lib.ListN.{length, length-set}
-use Rattle.machine.proofs.Tables.{table-next}
-use Rattle.machine.specs.Lists.{table}
+use Rattle.lists.specs.Lists.{table}
+use Rattle.lists.proofs.Tables.{table-next}
 use Rattle.command.specs.Command.{hexDigit, hex8}
 use Rattle.command.specs.Put.{Put}
 use Rattle.command.proofs.Digits.{hex-shift}

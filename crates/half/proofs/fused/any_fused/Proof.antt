@@ -16,7 +16,7 @@ returns : tie.Need-returns
 returns c = c .special-fused .ensures _ _
 
 finite-fused-requires : tie.Need-finite-fused-requires
-finite-fused-requires c κs = finite-le (c .before .before .args .c) (third (c .before .before .args .mode) (c .before .before .args .unmasked) (c .before .before .args .a) (c .before .before .args .b) (c .before .before .args .c) (sym (c .before .all-finite .ensures) ∙ not-false (c .before .all-finite .result) (c .if1 .left)))
+finite-fused-requires c κs = finite-le (c .before .before .args .c) (third (c .before .before .args .mode) (c .before .before .args .unmasked-ue) (c .before .before .args .a) (c .before .before .args .b) (c .before .before .args .c) (sym (c .before .all-finite .ensures) ∙ not-false (c .before .all-finite .result) (c .if1 .left)))
 
 denormal-flag-requires : tie.Need-denormal-flag-requires
 denormal-flag-requires c κs = search needs

@@ -33,7 +33,7 @@ finite-sum-requires : tie.Need-finite-sum-requires
 finite-sum-requires c κs = omega (arith, up-lt (c .before .before .before .before .before .before .scaled-product .ensures) (c .before .before .if1 .taken), c .before .before .before .magnitude .ensures, c .before .before .before .before .before .before .before .pre)
 
 returns : tie.Need-returns
-returns c = coarse-sum (c .before .before .before .before .before .before .before .before .args .mode) (c .before .before .before .before .before .before .before .before .args .unmasked) (c .before .before .before .before .before .before .before .before .args .a) (c .before .before .before .before .before .before .before .before .args .b) (c .before .before .before .before .before .before .before .before .args .c) (c .before .before .before .before .before .before .unlike-signs .ensures) (c .before .before .before .before .before .sign-of .ensures) (c .before .before .before .before .magnitude .ensures) _ (up-units (c .before .before .before .before .before .before .before .scaled-product .ensures) (c .before .before .before .if1 .taken)) (c .finite-sum .ensures)
+returns c = coarse-sum (c .before .before .before .before .before .before .before .before .args .mode) (c .before .before .before .before .before .before .before .before .args .unmasked-ue) (c .before .before .before .before .before .before .before .before .args .a) (c .before .before .before .before .before .before .before .before .args .b) (c .before .before .before .before .before .before .before .before .args .c) (c .before .before .before .before .before .before .unlike-signs .ensures) (c .before .before .before .before .before .sign-of .ensures) (c .before .before .before .before .magnitude .ensures) _ (up-units (c .before .before .before .before .before .before .before .scaled-product .ensures) (c .before .before .before .if1 .taken)) (c .finite-sum .ensures)
 
 sub-x : tie.Need-sub-x
 sub-x c = omega (arith, c .before .before .before .before .before .scaled-product .ensures .down (c .before .if1 .left))
@@ -51,7 +51,7 @@ finite-sum-requires-2 : tie.Need-finite-sum-requires-2
 finite-sum-requires-2 c κs = let d = down-units (c .before .before .before .before .before .before .scaled-product .ensures) (c .before .before .if1 .left) in omega (arith, c .before .before .before .magnitude .ensures, c .before .before .before .before .before .before .before .pre)
 
 returns-2 : tie.Need-returns-2
-returns-2 c = fine-sum (c .before .before .before .before .before .before .before .before .args .mode) (c .before .before .before .before .before .before .before .before .args .unmasked) (c .before .before .before .before .before .before .before .before .args .a) (c .before .before .before .before .before .before .before .before .args .b) (c .before .before .before .before .before .before .before .before .args .c) (c .before .before .before .before .before .before .unlike-signs .ensures) (c .before .before .before .before .before .sign-of .ensures) (c .before .before .before .before .magnitude .ensures) (down-units (c .before .before .before .before .before .before .before .scaled-product .ensures) (c .before .before .before .if1 .left) .0) (c .finite-sum2 .ensures)
+returns-2 c = fine-sum (c .before .before .before .before .before .before .before .before .args .mode) (c .before .before .before .before .before .before .before .before .args .unmasked-ue) (c .before .before .before .before .before .before .before .before .args .a) (c .before .before .before .before .before .before .before .before .args .b) (c .before .before .before .before .before .before .before .before .args .c) (c .before .before .before .before .before .before .unlike-signs .ensures) (c .before .before .before .before .before .sign-of .ensures) (c .before .before .before .before .magnitude .ensures) (down-units (c .before .before .before .before .before .before .before .scaled-product .ensures) (c .before .before .before .if1 .left) .0) (c .finite-sum2 .ensures)
 
 pub finite-fused-spec : {M : Type 1} → statement M
 finite-fused-spec =

@@ -31,7 +31,7 @@ with-flags-requires : tie.Need-with-flags-requires
 with-flags-requires c κs = search needs
 
 returns-2 : tie.Need-returns-2
-returns-2 c = beside (c .before .before .before .before .before .before .before .args .a) (c .before .before .before .before .before .before .before .args .b) (c .before .denormal-flag .ensures) (c .with-flags .ensures) (product-rounded (c .before .before .before .before .before .before .before .args .mode) (c .before .before .before .before .before .before .before .args .unmasked) (c .before .before .before .before .before .before .before .args .a) (c .before .before .before .before .before .before .before .args .b) (c .before .before .before .before .unlike-signs .ensures) (c .before .before .before .product-place .ensures) (c .before .before .round .ensures)) ∙ sym (finite-multiply _ _ (c .before .before .before .before .before .before .before .args .a) (c .before .before .before .before .before .before .before .args .b) (sym (c .before .before .before .before .before .before .all-finite .ensures) ∙ not-false (c .before .before .before .before .before .before .all-finite .result) (c .before .before .before .before .before .if1 .left)))
+returns-2 c = beside (c .before .before .before .before .before .before .before .args .a) (c .before .before .before .before .before .before .before .args .b) (c .before .denormal-flag .ensures) (c .with-flags .ensures) (product-rounded (c .before .before .before .before .before .before .before .args .mode) (c .before .before .before .before .before .before .before .args .unmasked-ue) (c .before .before .before .before .before .before .before .args .a) (c .before .before .before .before .before .before .before .args .b) (c .before .before .before .before .unlike-signs .ensures) (c .before .before .before .product-place .ensures) (c .before .before .round .ensures)) ∙ sym (finite-multiply _ _ (c .before .before .before .before .before .before .before .args .a) (c .before .before .before .before .before .before .before .args .b) (sym (c .before .before .before .before .before .before .all-finite .ensures) ∙ not-false (c .before .before .before .before .before .before .all-finite .result) (c .before .before .before .before .before .if1 .left)))
 
 pub any-product-spec : {M : Type 1} → statement M
 any-product-spec =

@@ -34,7 +34,7 @@ significand-beside-requires-2 c κs = search needs
 finite-quotient-requires : tie.Need-finite-quotient-requires
 finite-quotient-requires c κs =
     let f = ordinary (c .before .before .before .before .before .before .before .args .a) (c .before .before .before .before .before .before .before .args .b) (c .before .before .before .before .before .before .finite .ensures) (c .before .before .before .before .before .finite2 .ensures) (c .before .before .before .before .zero .ensures) (not-false _ (c .before .before .before .if1 .left)) in
-    (one-small (c .before .before .before .before .before .before .before .args .a) (c .before .before .before .before .before .before .before .args .b) (c .before .significand-beside .ensures) (c .significand-beside2 .ensures), divisor-pos (c .before .before .before .before .before .before .before .args .a) (c .before .before .before .before .before .before .before .args .b) (c .before .significand-beside .ensures) (c .significand-beside2 .ensures) (divisor-not-zero (c .before .before .before .before .before .before .before .args .mode) (c .before .before .before .before .before .before .before .args .unmasked) (c .before .before .before .before .before .before .before .args .a) (c .before .before .before .before .before .before .before .args .b) f))
+    (one-small (c .before .before .before .before .before .before .before .args .a) (c .before .before .before .before .before .before .before .args .b) (c .before .significand-beside .ensures) (c .significand-beside2 .ensures), divisor-pos (c .before .before .before .before .before .before .before .args .a) (c .before .before .before .before .before .before .before .args .b) (c .before .significand-beside .ensures) (c .significand-beside2 .ensures) (divisor-not-zero (c .before .before .before .before .before .before .before .args .mode) (c .before .before .before .before .before .before .before .args .unmasked-ue) (c .before .before .before .before .before .before .before .args .a) (c .before .before .before .before .before .before .before .args .b) f))
 
 denormal-flag-requires : tie.Need-denormal-flag-requires
 denormal-flag-requires c κs = search needs
@@ -45,7 +45,7 @@ with-flags-requires c κs = search needs
 returns-2 : tie.Need-returns-2
 returns-2 c =
     let f = ordinary (c .before .before .before .before .before .before .before .before .before .before .args .a) (c .before .before .before .before .before .before .before .before .before .before .args .b) (c .before .before .before .before .before .before .before .before .before .finite .ensures) (c .before .before .before .before .before .before .before .before .finite2 .ensures) (c .before .before .before .before .before .before .before .zero .ensures) (not-false _ (c .before .before .before .before .before .before .if1 .left)) in
-    let q = quotient-units (c .before .before .before .before .before .before .before .before .before .before .args .a) (c .before .before .before .before .before .before .before .before .before .before .args .b) (c .before .before .before .before .significand-beside .ensures) (c .before .before .before .significand-beside2 .ensures) _ _ _ (divisor-not-zero (c .before .before .before .before .before .before .before .before .before .before .args .mode) (c .before .before .before .before .before .before .before .before .before .before .args .unmasked) (c .before .before .before .before .before .before .before .before .before .before .args .a) (c .before .before .before .before .before .before .before .before .before .before .args .b) f) (c .before .before .finite-quotient .ensures) in
+    let q = quotient-units (c .before .before .before .before .before .before .before .before .before .before .args .a) (c .before .before .before .before .before .before .before .before .before .before .args .b) (c .before .before .before .before .significand-beside .ensures) (c .before .before .before .significand-beside2 .ensures) _ _ _ (divisor-not-zero (c .before .before .before .before .before .before .before .before .before .before .args .mode) (c .before .before .before .before .before .before .before .before .before .before .args .unmasked-ue) (c .before .before .before .before .before .before .before .before .before .before .args .a) (c .before .before .before .before .before .before .before .before .before .before .args .b) f) (c .before .before .finite-quotient .ensures) in
     beside (c .before .before .before .before .before .before .before .before .before .before .args .a) (c .before .before .before .before .before .before .before .before .before .before .args .b) (c .before .denormal-flag .ensures) (c .with-flags .ensures) (q ∙ rw (c .before .before .before .before .before .unlike-signs .ensures))
     ∙ sym (finite-divide _ _ (c .before .before .before .before .before .before .before .before .before .before .args .a) (c .before .before .before .before .before .before .before .before .before .before .args .b) f)
 

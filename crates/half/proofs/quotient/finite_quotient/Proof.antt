@@ -1,7 +1,7 @@
 use native.Mathlib.Omega.{arith}
 use mathlib.Core.Path.{sym, _∙_}
 use Rattle.half.proofs.Quotients.{in-range}
-use Rattle.half.proofs.Sticky.{far-too-large, placed-fraction}
+use Rattle.half.proofs.Sticky.{far-too-large, placed-ratio}
 use borrow.Author.Needs.{needs}
 use Rattle.half.proofs.quotient.finite_quotient.Statement.{statement}
 use Rattle.half.proofs.quotient.finite_quotient.Tie as tie
@@ -22,7 +22,7 @@ round-requires : tie.Need-round-requires
 round-requires c κs = search needs
 
 returns-2 : tie.Need-returns-2
-returns-2 c = placed-fraction _ _ _ (c .before .before .before .args .x) (c .before .before .before .args .y) (c .before .before .before .pre .1) (c .before .quotient-place .ensures) (c .round .ensures)
+returns-2 c = placed-ratio _ _ _ (c .before .before .before .args .x) (c .before .before .before .args .y) (c .before .before .before .pre .1) (c .before .quotient-place .ensures) (c .round .ensures)
 
 pub finite-quotient-spec : {M : Type 1} → statement M
 finite-quotient-spec =

@@ -13,7 +13,7 @@ nan-result-requires : tie.Need-nan-result-requires
 nan-result-requires c κs = search needs
 
 returns : tie.Need-returns
-returns c = λ mode unmasked. divide-nan _ _ mode unmasked (two-nan (c .before .before .before .args .a) (c .before .before .before .args .b) (c .before .before .any-nan .ensures) (c .before .if1 .taken)) (c .nan-result .ensures)
+returns c = λ mode unmaskedUE. divide-nan _ _ mode unmaskedUE (two-nan (c .before .before .before .args .a) (c .before .before .before .args .b) (c .before .before .any-nan .ensures) (c .before .if1 .taken)) (c .nan-result .ensures)
 
 zero-requires : tie.Need-zero-requires
 zero-requires c κs = search needs
@@ -31,7 +31,7 @@ invalid-result-requires : tie.Need-invalid-result-requires
 invalid-result-requires c κs = search needs
 
 returns-2 : tie.Need-returns-2
-returns-2 c = λ mode unmasked. divide-invalid _ _ mode unmasked (two-nan (c .before .before .before .before .before .before .before .before .args .a) (c .before .before .before .before .before .before .before .before .args .b) (c .before .before .before .before .before .before .before .any-nan .ensures) (c .before .before .before .before .before .before .if1 .left)) (rw (← (c .before .before .before .before .before .zero .ensures), ← (c .before .before .before .before .zero2 .ensures), ← (c .before .before .before .infinite .ensures), ← (c .before .before .infinite2 .ensures)) (c .before .if2 .taken)) (c .invalid-result .ensures)
+returns-2 c = λ mode unmaskedUE. divide-invalid _ _ mode unmaskedUE (two-nan (c .before .before .before .before .before .before .before .before .args .a) (c .before .before .before .before .before .before .before .before .args .b) (c .before .before .before .before .before .before .before .any-nan .ensures) (c .before .before .before .before .before .before .if1 .left)) (rw (← (c .before .before .before .before .before .zero .ensures), ← (c .before .before .before .before .zero2 .ensures), ← (c .before .before .before .infinite .ensures), ← (c .before .before .infinite2 .ensures)) (c .before .if2 .taken)) (c .invalid-result .ensures)
 
 unlike-signs-requires : tie.Need-unlike-signs-requires
 unlike-signs-requires c κs = search needs
@@ -49,7 +49,7 @@ zero-requires-4 : tie.Need-zero-requires-4
 zero-requires-4 c κs = search needs
 
 returns-3 : tie.Need-returns-3
-returns-3 c = λ mode unmasked. divide-by-zero (c .before .before .before .before .before .before .before .before .before .before .before .before .before .args .a) (c .before .before .before .before .before .before .before .before .before .before .before .before .before .args .b) mode unmasked (two-nan (c .before .before .before .before .before .before .before .before .before .before .before .before .before .args .a) (c .before .before .before .before .before .before .before .before .before .before .before .before .before .args .b) (c .before .before .before .before .before .before .before .before .before .before .before .before .any-nan .ensures) (c .before .before .before .before .before .before .before .before .before .before .before .if1 .left)) (rw (← (c .before .before .before .before .before .before .before .before .before .before .zero .ensures), ← (c .before .before .before .before .before .before .before .before .before .zero2 .ensures), ← (c .before .before .before .before .before .before .before .before .infinite .ensures), ← (c .before .before .before .before .before .before .before .infinite2 .ensures)) (c .before .before .before .before .before .before .if2 .left)) (rw (← (c .before .before .before .finite .ensures), ← (c .before .before .zero3 .ensures), ← (c .before .zero4 .ensures)) (c .if3 .taken)) (c .before .before .before .before .with-sign .ensures ∙ ap (λ (u : Bool). infinity u) (c .before .before .before .before .before .unlike-signs .ensures))
+returns-3 c = λ mode unmaskedUE. divide-by-zero (c .before .before .before .before .before .before .before .before .before .before .before .before .before .args .a) (c .before .before .before .before .before .before .before .before .before .before .before .before .before .args .b) mode unmaskedUE (two-nan (c .before .before .before .before .before .before .before .before .before .before .before .before .before .args .a) (c .before .before .before .before .before .before .before .before .before .before .before .before .before .args .b) (c .before .before .before .before .before .before .before .before .before .before .before .before .any-nan .ensures) (c .before .before .before .before .before .before .before .before .before .before .before .if1 .left)) (rw (← (c .before .before .before .before .before .before .before .before .before .before .zero .ensures), ← (c .before .before .before .before .before .before .before .before .before .zero2 .ensures), ← (c .before .before .before .before .before .before .before .before .infinite .ensures), ← (c .before .before .before .before .before .before .before .infinite2 .ensures)) (c .before .before .before .before .before .before .if2 .left)) (rw (← (c .before .before .before .finite .ensures), ← (c .before .before .zero3 .ensures), ← (c .before .zero4 .ensures)) (c .if3 .taken)) (c .before .before .before .before .with-sign .ensures ∙ ap (λ (u : Bool). infinity u) (c .before .before .before .before .before .unlike-signs .ensures))
 
 denormal-flag-requires : tie.Need-denormal-flag-requires
 denormal-flag-requires c κs = search needs
@@ -58,16 +58,16 @@ infinite-requires-3 : tie.Need-infinite-requires-3
 infinite-requires-3 c κs = search needs
 
 returns-4 : tie.Need-returns-4
-returns-4 c = λ mode unmasked. divide-infinite (c .before .before .before .before .before .before .before .before .before .before .before .before .before .before .before .before .args .a) (c .before .before .before .before .before .before .before .before .before .before .before .before .before .before .before .before .args .b) mode unmasked (two-nan (c .before .before .before .before .before .before .before .before .before .before .before .before .before .before .before .before .args .a) (c .before .before .before .before .before .before .before .before .before .before .before .before .before .before .before .before .args .b) (c .before .before .before .before .before .before .before .before .before .before .before .before .before .before .before .any-nan .ensures) (c .before .before .before .before .before .before .before .before .before .before .before .before .before .before .if1 .left)) (rw (← (c .before .before .before .before .before .before .before .before .before .before .before .before .before .zero .ensures), ← (c .before .before .before .before .before .before .before .before .before .before .before .before .zero2 .ensures), ← (c .before .before .before .before .before .before .before .before .before .before .before .infinite .ensures), ← (c .before .before .before .before .before .before .before .before .before .before .infinite2 .ensures)) (c .before .before .before .before .before .before .before .before .before .if2 .left)) (rw (← (c .before .before .before .before .before .before .finite .ensures), ← (c .before .before .before .before .before .zero3 .ensures), ← (c .before .before .before .before .zero4 .ensures)) (c .before .before .before .if3 .left)) (c .before .before .denormal-flag .ensures) (sym (c .before .infinite3 .ensures) ∙ c .if4 .taken) (c .before .before .before .before .before .before .before .with-sign .ensures ∙ ap (λ (u : Bool). infinity u) (c .before .before .before .before .before .before .before .before .unlike-signs .ensures))
+returns-4 c = λ mode unmaskedUE. divide-infinite (c .before .before .before .before .before .before .before .before .before .before .before .before .before .before .before .before .args .a) (c .before .before .before .before .before .before .before .before .before .before .before .before .before .before .before .before .args .b) mode unmaskedUE (two-nan (c .before .before .before .before .before .before .before .before .before .before .before .before .before .before .before .before .args .a) (c .before .before .before .before .before .before .before .before .before .before .before .before .before .before .before .before .args .b) (c .before .before .before .before .before .before .before .before .before .before .before .before .before .before .before .any-nan .ensures) (c .before .before .before .before .before .before .before .before .before .before .before .before .before .before .if1 .left)) (rw (← (c .before .before .before .before .before .before .before .before .before .before .before .before .before .zero .ensures), ← (c .before .before .before .before .before .before .before .before .before .before .before .before .zero2 .ensures), ← (c .before .before .before .before .before .before .before .before .before .before .before .infinite .ensures), ← (c .before .before .before .before .before .before .before .before .before .before .infinite2 .ensures)) (c .before .before .before .before .before .before .before .before .before .if2 .left)) (rw (← (c .before .before .before .before .before .before .finite .ensures), ← (c .before .before .before .before .before .zero3 .ensures), ← (c .before .before .before .before .zero4 .ensures)) (c .before .before .before .if3 .left)) (c .before .before .denormal-flag .ensures) (sym (c .before .infinite3 .ensures) ∙ c .if4 .taken) (c .before .before .before .before .before .before .before .with-sign .ensures ∙ ap (λ (u : Bool). infinity u) (c .before .before .before .before .before .before .before .before .unlike-signs .ensures))
 
 with-sign-requires-2 : tie.Need-with-sign-requires-2
 with-sign-requires-2 c κs = search needs
 
 returns-5 : tie.Need-returns-5
-returns-5 c = λ mode unmasked.
+returns-5 c = λ mode unmaskedUE.
     let n = two-nan (c .before .before .before .before .before .before .before .before .before .before .before .before .before .before .before .before .before .args .a) (c .before .before .before .before .before .before .before .before .before .before .before .before .before .before .before .before .before .args .b) (c .before .before .before .before .before .before .before .before .before .before .before .before .before .before .before .before .any-nan .ensures) (c .before .before .before .before .before .before .before .before .before .before .before .before .before .before .before .if1 .left) in
     let i = sym (c .before .before .infinite3 .ensures) ∙ c .before .if4 .left in
-    divide-by-infinite (c .before .before .before .before .before .before .before .before .before .before .before .before .before .before .before .before .before .args .a) (c .before .before .before .before .before .before .before .before .before .before .before .before .before .before .before .before .before .args .b) mode unmasked n (rw (← (c .before .before .before .before .before .before .before .before .before .before .before .before .before .before .zero .ensures), ← (c .before .before .before .before .before .before .before .before .before .before .before .before .before .zero2 .ensures), ← (c .before .before .before .before .before .before .before .before .before .before .before .before .infinite .ensures), ← (c .before .before .before .before .before .before .before .before .before .before .before .infinite2 .ensures)) (c .before .before .before .before .before .before .before .before .before .before .if2 .left)) (rw (← (c .before .before .before .before .before .before .before .finite .ensures), ← (c .before .before .before .before .before .before .zero3 .ensures), ← (c .before .before .before .before .before .zero4 .ensures)) (c .before .before .before .before .if3 .left)) (c .before .before .before .denormal-flag .ensures) i
+    divide-by-infinite (c .before .before .before .before .before .before .before .before .before .before .before .before .before .before .before .before .before .args .a) (c .before .before .before .before .before .before .before .before .before .before .before .before .before .before .before .before .before .args .b) mode unmaskedUE n (rw (← (c .before .before .before .before .before .before .before .before .before .before .before .before .before .before .zero .ensures), ← (c .before .before .before .before .before .before .before .before .before .before .before .before .before .zero2 .ensures), ← (c .before .before .before .before .before .before .before .before .before .before .before .before .infinite .ensures), ← (c .before .before .before .before .before .before .before .before .before .before .before .infinite2 .ensures)) (c .before .before .before .before .before .before .before .before .before .before .if2 .left)) (rw (← (c .before .before .before .before .before .before .before .finite .ensures), ← (c .before .before .before .before .before .before .zero3 .ensures), ← (c .before .before .before .before .before .zero4 .ensures)) (c .before .before .before .before .if3 .left)) (c .before .before .before .denormal-flag .ensures) i
     (divisor-infinite (c .before .before .before .before .before .before .before .before .before .before .before .before .before .before .before .before .before .args .a) (c .before .before .before .before .before .before .before .before .before .before .before .before .before .before .before .before .before .args .b) (c .before .before .before .before .before .before .before .before .before .before .before .before .before .before .before .before .before .pre) n (rw (← (c .before .before .before .before .before .before .before .before .before .before .before .before .before .before .zero .ensures), ← (c .before .before .before .before .before .before .before .before .before .before .before .before .before .zero2 .ensures), ← (c .before .before .before .before .before .before .before .before .before .before .before .before .infinite .ensures), ← (c .before .before .before .before .before .before .before .before .before .before .before .infinite2 .ensures)) (c .before .before .before .before .before .before .before .before .before .before .if2 .left)) (rw (← (c .before .before .before .before .before .before .before .finite .ensures), ← (c .before .before .before .before .before .before .zero3 .ensures), ← (c .before .before .before .before .before .zero4 .ensures)) (c .before .before .before .before .if3 .left)) i)
     (c .with-sign2 .ensures ∙ ap (λ (u : Bool). withSign u 0) (c .before .before .before .before .before .before .before .before .before .unlike-signs .ensures))
 

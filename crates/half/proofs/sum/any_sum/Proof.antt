@@ -45,7 +45,7 @@ with-flags-requires : tie.Need-with-flags-requires
 with-flags-requires c κs = search needs
 
 returns-2 : tie.Need-returns-2
-returns-2 c = beside (c .before .before .before .before .before .before .before .before .before .args .a) (c .before .before .before .before .before .before .before .before .before .args .b) (c .before .denormal-flag .ensures) (c .with-flags .ensures) (sum-units (c .before .before .before .before .before .before .before .before .before .args .mode) (c .before .before .before .before .before .before .before .before .before .args .unmasked) (c .before .before .before .before .before .before .before .before .before .args .a) (c .before .before .before .before .before .before .before .before .before .args .b) (c .before .before .before .before .before .before .magnitude .ensures) (c .before .before .before .before .before .magnitude2 .ensures) (c .before .before .before .before .sign-of .ensures) (c .before .before .before .sign-of2 .ensures) (c .before .before .finite-sum .ensures)) ∙ sym (finite-add _ _ (c .before .before .before .before .before .before .before .before .before .args .a) (c .before .before .before .before .before .before .before .before .before .args .b) (sym (c .before .before .before .before .before .before .before .before .all-finite .ensures) ∙ not-false (c .before .before .before .before .before .before .before .before .all-finite .result) (c .before .before .before .before .before .before .before .if1 .left)))
+returns-2 c = beside (c .before .before .before .before .before .before .before .before .before .args .a) (c .before .before .before .before .before .before .before .before .before .args .b) (c .before .denormal-flag .ensures) (c .with-flags .ensures) (sum-units (c .before .before .before .before .before .before .before .before .before .args .mode) (c .before .before .before .before .before .before .before .before .before .args .unmasked-ue) (c .before .before .before .before .before .before .before .before .before .args .a) (c .before .before .before .before .before .before .before .before .before .args .b) (c .before .before .before .before .before .before .magnitude .ensures) (c .before .before .before .before .before .magnitude2 .ensures) (c .before .before .before .before .sign-of .ensures) (c .before .before .before .sign-of2 .ensures) (c .before .before .finite-sum .ensures)) ∙ sym (finite-add _ _ (c .before .before .before .before .before .before .before .before .before .args .a) (c .before .before .before .before .before .before .before .before .before .args .b) (sym (c .before .before .before .before .before .before .before .before .all-finite .ensures) ∙ not-false (c .before .before .before .before .before .before .before .before .all-finite .result) (c .before .before .before .before .before .before .before .if1 .left)))
 
 pub any-sum-spec : {M : Type 1} → statement M
 any-sum-spec =

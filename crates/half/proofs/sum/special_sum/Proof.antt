@@ -11,7 +11,7 @@ nan-result-requires : tie.Need-nan-result-requires
 nan-result-requires c κs = search needs
 
 returns : tie.Need-returns
-returns c = λ mode unmasked. add-nan _ _ mode unmasked (two-nan (c .before .before .before .args .a) (c .before .before .before .args .b) (c .before .before .any-nan .ensures) (c .before .if1 .taken)) (c .nan-result .ensures)
+returns c = λ mode unmaskedUE. add-nan _ _ mode unmaskedUE (two-nan (c .before .before .before .args .a) (c .before .before .before .args .b) (c .before .before .any-nan .ensures) (c .before .if1 .taken)) (c .nan-result .ensures)
 
 denormal-flag-requires : tie.Need-denormal-flag-requires
 denormal-flag-requires c κs = search needs
@@ -29,16 +29,16 @@ invalid-result-requires : tie.Need-invalid-result-requires
 invalid-result-requires c κs = search needs
 
 returns-2 : tie.Need-returns-2
-returns-2 c = λ mode unmasked. add-invalid _ _ mode unmasked (two-nan (c .before .before .before .before .before .before .before .before .args .a) (c .before .before .before .before .before .before .before .before .args .b) (c .before .before .before .before .before .before .before .any-nan .ensures) (c .before .before .before .before .before .before .if1 .left)) (rw (← (c .before .before .before .before .infinite .ensures), ← (c .before .before .before .infinite2 .ensures), ← (c .before .before .unlike-signs .ensures)) (c .before .if2 .taken)) (c .invalid-result .ensures)
+returns-2 c = λ mode unmaskedUE. add-invalid _ _ mode unmaskedUE (two-nan (c .before .before .before .before .before .before .before .before .args .a) (c .before .before .before .before .before .before .before .before .args .b) (c .before .before .before .before .before .before .before .any-nan .ensures) (c .before .before .before .before .before .before .if1 .left)) (rw (← (c .before .before .before .before .infinite .ensures), ← (c .before .before .before .infinite2 .ensures), ← (c .before .before .unlike-signs .ensures)) (c .before .if2 .taken)) (c .invalid-result .ensures)
 
 infinite-requires-3 : tie.Need-infinite-requires-3
 infinite-requires-3 c κs = search needs
 
 returns-3 : tie.Need-returns-3
-returns-3 c = λ mode unmasked. add-left (c .before .before .before .before .before .before .before .before .before .args .a) (c .before .before .before .before .before .before .before .before .before .args .b) mode unmasked (two-nan (c .before .before .before .before .before .before .before .before .before .args .a) (c .before .before .before .before .before .before .before .before .before .args .b) (c .before .before .before .before .before .before .before .before .any-nan .ensures) (c .before .before .before .before .before .before .before .if1 .left)) (rw (← (c .before .before .before .before .before .infinite .ensures), ← (c .before .before .before .before .infinite2 .ensures), ← (c .before .before .before .unlike-signs .ensures)) (c .before .before .if2 .left)) (c .before .before .before .before .before .before .denormal-flag .ensures) (sym (c .before .infinite3 .ensures) ∙ c .if3 .taken)
+returns-3 c = λ mode unmaskedUE. add-left (c .before .before .before .before .before .before .before .before .before .args .a) (c .before .before .before .before .before .before .before .before .before .args .b) mode unmaskedUE (two-nan (c .before .before .before .before .before .before .before .before .before .args .a) (c .before .before .before .before .before .before .before .before .before .args .b) (c .before .before .before .before .before .before .before .before .any-nan .ensures) (c .before .before .before .before .before .before .before .if1 .left)) (rw (← (c .before .before .before .before .before .infinite .ensures), ← (c .before .before .before .before .infinite2 .ensures), ← (c .before .before .before .unlike-signs .ensures)) (c .before .before .if2 .left)) (c .before .before .before .before .before .before .denormal-flag .ensures) (sym (c .before .infinite3 .ensures) ∙ c .if3 .taken)
 
 returns-4 : tie.Need-returns-4
-returns-4 c = λ mode unmasked. add-right (c .before .before .before .before .before .before .before .before .before .args .a) (c .before .before .before .before .before .before .before .before .before .args .b) mode unmasked (two-nan (c .before .before .before .before .before .before .before .before .before .args .a) (c .before .before .before .before .before .before .before .before .before .args .b) (c .before .before .before .before .before .before .before .before .any-nan .ensures) (c .before .before .before .before .before .before .before .if1 .left)) (rw (← (c .before .before .before .before .before .infinite .ensures), ← (c .before .before .before .before .infinite2 .ensures), ← (c .before .before .before .unlike-signs .ensures)) (c .before .before .if2 .left)) (c .before .before .before .before .before .before .denormal-flag .ensures) (sym (c .before .infinite3 .ensures) ∙ c .if3 .left) (rw (sym (c .before .infinite3 .ensures) ∙ c .if3 .left) at (two-infinite (c .before .before .before .before .before .before .before .before .before .args .a) (c .before .before .before .before .before .before .before .before .before .args .b) (c .before .before .before .before .before .before .before .before .before .pre) (sym (c .before .before .before .before .before .before .before .before .any-nan .ensures) ∙ c .before .before .before .before .before .before .before .if1 .left)))
+returns-4 c = λ mode unmaskedUE. add-right (c .before .before .before .before .before .before .before .before .before .args .a) (c .before .before .before .before .before .before .before .before .before .args .b) mode unmaskedUE (two-nan (c .before .before .before .before .before .before .before .before .before .args .a) (c .before .before .before .before .before .before .before .before .before .args .b) (c .before .before .before .before .before .before .before .before .any-nan .ensures) (c .before .before .before .before .before .before .before .if1 .left)) (rw (← (c .before .before .before .before .before .infinite .ensures), ← (c .before .before .before .before .infinite2 .ensures), ← (c .before .before .before .unlike-signs .ensures)) (c .before .before .if2 .left)) (c .before .before .before .before .before .before .denormal-flag .ensures) (sym (c .before .infinite3 .ensures) ∙ c .if3 .left) (rw (sym (c .before .infinite3 .ensures) ∙ c .if3 .left) at (two-infinite (c .before .before .before .before .before .before .before .before .before .args .a) (c .before .before .before .before .before .before .before .before .before .args .b) (c .before .before .before .before .before .before .before .before .before .pre) (sym (c .before .before .before .before .before .before .before .before .any-nan .ensures) ∙ c .before .before .before .before .before .before .before .if1 .left)))
 
 pub special-sum-spec : {M : Type 1} → statement M
 special-sum-spec =

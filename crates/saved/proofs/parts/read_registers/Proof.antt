@@ -2,8 +2,8 @@
 use Prim.Native.Nat.{_-_, _*_}
 use mathlib.Core.Path.{_∙_}
 use native.Mathlib.Omega.{arith}
-use Rattle.machine.specs.Lists.{table}
-use Rattle.machine.proofs.Tables.{length-table}
+use Rattle.lists.specs.Lists.{table}
+use Rattle.lists.proofs.Tables.{length-table}
 use Rattle.saved.specs.Form.{numberIn}
 use Rattle.saved.proofs.Registers.{at-most-eight, read-register}
 use Rattle.saved.proofs.Written.{Written, nothing, kept, stored, all}

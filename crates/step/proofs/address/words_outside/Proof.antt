@@ -4,7 +4,7 @@ use mathlib.Core.Bool.{_&&_}
 use native.Mathlib.Omega.{arith}
 use lib.Dec.{leb}
 use Rattle.evex.specs.Bits.{isSet}
-use Rattle.half.specs.Operations.{some}
+use Rattle.lists.specs.Lists.{some}
 use Rattle.machine.specs.Memory.{wordFrom, wordBytes}
 use Rattle.step.specs.Work.{wordsOutside}
 use Rattle.step.proofs.Filling.{Found, found-none, found-more, found-all}

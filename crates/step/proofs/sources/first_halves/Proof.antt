@@ -1,7 +1,7 @@
 -- `step::sources::first_halves` meets its contract: by the kind of the source.
 use mathlib.Core.Path.{subst}
 use Rattle.evex.proofs.Bounds.{SourceIn}
-use Rattle.machine.specs.Lists.{table}
+use Rattle.lists.specs.Lists.{table}
 use borrow.Author.Needs.{needs}
 use Rattle.step.proofs.sources.first_halves.Statement.{statement}
 use Rattle.step.proofs.sources.first_halves.Tie as tie

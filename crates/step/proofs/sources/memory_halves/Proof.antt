@@ -3,7 +3,8 @@ use Prim.Native.Nat.{_-_}
 use mathlib.Core.Path.{refl}
 use mathlib.Core.Bool.{cond}
 use native.Mathlib.Omega.{arith}
-use Rattle.evex.specs.Bits.{isSet, numberAt}
+use Rattle.lists.specs.Lists.{numberAt}
+use Rattle.evex.specs.Bits.{isSet}
 use Rattle.machine.specs.Memory.{wordFrom, wordBytes}
 use Rattle.machine.specs.Lanes.{memoryHalves}
 use Rattle.step.proofs.Filling.{Filled, none, more, all}

@@ -15,9 +15,7 @@ use lib.Dec.{eqb}
 use lib.ListN.{length, getD, take, drop, set, drop-of-length-le, List·getD-append}
 use lib.Pow.{pow-pos}
 use lib.Seq.{paste, ext-getD, drop-cons, set-at, append-snoc, take-all, length-paste-head, getD-append-add, getD-take, getD-drop, length-take-le}
-use Rattle.evex.specs.Bits.{numberAt}
-use Rattle.half.specs.Operations.{some}
-use Rattle.machine.specs.Lists.{tableFrom, table, orAll}
+use Rattle.lists.specs.Lists.{some, orAll, tableFrom, table, numberAt}
 
 -- ---- tables
 

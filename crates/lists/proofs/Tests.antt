@@ -1,0 +1,20 @@
+-- What a test picks.
+-- Assumes nothing.
+use mathlib.Core.Path.{_≡_, refl}
+use mathlib.Core.Bool.{Bool, true, false, cond}
+
+module _ {A : Type 0} where
+  -- what holds of both holds of the one that a test picks
+  pub either : (P : A → Type 0) (t : Bool) {x y : A} → P x → P y → P (cond t x y)
+  either P true p q = p
+  either P false p q = q
+
+  -- two picks by one test are related where what is picked is
+  pub either-related : (R : A → A → Type 0) (t : Bool) {a b c d : A} → R a b → R c d → R (cond t a c) (cond t b d)
+  either-related R true h k = h
+  either-related R false h k = k
+
+  -- and equal where the first of each is, if the test holds
+  pub either-equal : {x y : A} (z : A) (t : Bool) → (t ≡ true → x ≡ y) → cond t x z ≡ cond t y z
+  either-equal z true h = h refl
+  either-equal z false h = refl

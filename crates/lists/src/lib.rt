@@ -1,0 +1,1 @@
+// No code: the words for lists that the definitions of every crate share, and their laws.
