@@ -5,20 +5,19 @@ use mathlib.Core.Bool.{Bool, true, false, cond, not, _&&_, _||_}
 use mathlib.Core.List.{List, [], _∷_, map}
 use Prim.Native.Nat.{ℕ, _≤_, _<_}
 use native.Mathlib.Omega.{arith}
-use native.Mathlib.Nat.{add-le-add}
+use native.Mathlib.Nat.{add-le-add, le-trans, le-add-right}
 use lib.Dec.{eqb, lit≤}
 use lib.IntN.{ℤ}
 use Rattle.lists.specs.Lists.{firstOf}
+use Rattle.lists.proofs.Tests.{either}
 use Rattle.evex.specs.Bits.{bits}
 use Rattle.evex.specs.List.{hasFirst}
-use Rattle.evex.specs.Fields.{headOf, b, lengthBits, modBits, rm, listed, destination, firstSource, secondSource, first, registerForm, embeddedRounding, lanes, rounding, hasSib, baseBits, indexNumber, indexOf, noBase, baseOf, displacementAt, displacementSize, size, displacementOf, second, instruction}
+use Rattle.evex.specs.Fields.{headOf, b, lengthBits, modBits, rm, listed, destination, firstSource, secondSource, first, registerForm, embeddedRounding, lanes, hasSib, baseBits, indexNumber, indexOf, noBase, baseOf, displacementAt, displacementSize, size, displacementOf, second, instruction}
 use Rattle.evex.specs.Decode.{refusals, fields, decoded}
 use Rattle.evex.specs.declared.head.Head.{Head}
 use Rattle.evex.specs.declared.list.Row.{Row}
 use Rattle.evex.specs.declared.list.Listed.{Listed}
 use Rattle.evex.specs.declared.list.Listed.the-variants.{Found, Nothing}
-use Rattle.evex.specs.declared.Rounding.{Rounding}
-use Rattle.evex.specs.declared.Rounding.the-variants.{Control, Embedded}
 use Rattle.evex.specs.declared.Source.{Source}
 use Rattle.evex.specs.declared.Source.the-variants as source
 use Rattle.evex.specs.declared.Base.{Base}
@@ -31,10 +30,6 @@ use Rattle.evex.specs.declared.Instruction.{Instruction}
 use Rattle.evex.specs.declared.Refusal.{Refusal}
 use Rattle.evex.specs.declared.Decoded.{Decoded}
 use Rattle.evex.specs.declared.Decoded.the-variants.{Fields, Refused}
-
-abbrev pub RoundingIn : Rounding → Type 0
-RoundingIn Control = Unit {0}
-RoundingIn (Embedded mode) = mode < 4
 
 abbrev pub SourceIn : Source → Type 0
 SourceIn source.None = Unit {0}
@@ -55,22 +50,17 @@ OperandIn (operand.Memory address broadcast) = BaseIn (address .base) × IndexIn
 
 pub record Bounds (i : Instruction) : Type 0 where
   pub lanes : i .lanes ≤ 32
-  pub rounding : RoundingIn (i .rounding)
   pub mask : i .mask < 8
   pub destination : i .destination < 32
   pub first : SourceIn (i .first)
   pub second : OperandIn (i .second)
+  pub least : 6 ≤ i .size
   pub size : i .size ≤ 11
 
 -- ---- each field
 
--- what holds of both holds of the one that a test picks
-either : {A : Type 0} (P : A → Type 0) (t : Bool) (x y : A) → P x → P y → P (cond t x y)
-either P true x y p q = p
-either P false x y p q = q
-
 at-most : (k : ℕ) (t : Bool) (x y : ℕ) → x ≤ k → y ≤ k → cond t x y ≤ k
-at-most k = either (λ n. n ≤ k)
+at-most k t x y = either (λ n. n ≤ k) t
 
 module _ (h : Head) where
   lanes-in : lanes h ≤ 32
@@ -79,16 +69,12 @@ module _ (h : Head) where
       at-most 32 (embeddedRounding h) 32 _ (lit≤ tt)
       (at-most 32 (eqb (lengthBits h) 0) 8 _ (lit≤ tt) (at-most 32 (eqb (lengthBits h) 1) 16 32 (lit≤ tt) (lit≤ tt)))
 
-  rounding-in : RoundingIn (rounding h)
-  unfolding rounding
-  rounding-in = either RoundingIn (embeddedRounding h) (Embedded (lengthBits h)) Control (omega arith) tt
-
   destination-in : destination h < 32
   destination-in = omega arith
 
   first-in : (row : Row) → SourceIn (first h row)
   unfolding first
-  first-in row = either SourceIn (hasFirst row) (source.Register (firstSource h)) source.None (omega arith) tt
+  first-in row = either SourceIn (hasFirst row) (omega arith) tt
 
   base-bits-in : baseBits h ≤ 7
   unfolding baseBits
@@ -97,22 +83,18 @@ module _ (h : Head) where
   base-in : BaseIn (baseOf h)
   unfolding baseOf
   base-in =
-      either BaseIn (noBase h) _ _
-      (either BaseIn (hasSib h) base.None base.NextInstruction tt tt)
+      either BaseIn (noBase h) (either BaseIn (hasSib h) tt tt)
       (omega (arith, base-bits-in))
 
   index-in : IndexIn (indexOf h)
   unfolding indexOf
   index-in =
-      either IndexIn (hasSib h && not (eqb (indexNumber h) 4)) (index.Scaled (indexNumber h) (bits (h .sib) 6 2)) index.None
-      (omega arith, omega arith) tt
+      either IndexIn (hasSib h && not (eqb (indexNumber h) 4)) (omega arith, omega arith) tt
 
   second-in : (d : ℤ) → OperandIn (second h d)
   unfolding second
   second-in d =
-      either OperandIn (registerForm h) (operand.Register (secondSource h))
-      (operand.Memory (record { base = baseOf h; index = indexOf h; displacement = d }) (b h))
-      (omega arith) (base-in, index-in)
+      either OperandIn (registerForm h) (omega arith) (base-in, index-in)
 
   size-in : size h ≤ 11
   unfolding size displacementAt displacementSize
@@ -120,16 +102,20 @@ module _ (h : Head) where
       add-le-add (at-most 7 (hasSib h) 7 6 (lit≤ tt) (lit≤ tt))
       (at-most 4 (eqb (modBits h) 1) 1 _ (lit≤ tt) (at-most 4 (eqb (modBits h) 2 || noBase h) 4 0 (lit≤ tt) (lit≤ tt)))
 
+  size-least : 6 ≤ size h
+  unfolding size displacementAt
+  size-least = le-trans (either (λ n. 6 ≤ n) (hasSib h) (lit≤ tt) (lit≤ tt)) (le-add-right _ (displacementSize h))
+
   instruction-in : (row : Row) (d : ℤ) → Bounds (instruction h row d)
   unfolding instruction
   instruction-in row d =
       record {
         lanes = lanes-in;
-        rounding = rounding-in;
         mask = omega arith;
         destination = destination-in;
         first = first-in row;
         second = second-in d;
+        least = size-least;
         size = size-in;
       }
 
@@ -145,7 +131,7 @@ fields-in h code Nothing = tt
 
 first-of : (cs : List (Bool × Refusal)) (d : Decoded) → DecodedIn d → DecodedIn (firstOf (map (λ c. (c .0, Refused (c .1))) cs) d)
 first-of [] d p = p
-first-of (c ∷ cs) d p = either DecodedIn (c .0) (Refused (c .1)) _ tt (first-of cs d p)
+first-of (c ∷ cs) d p = either DecodedIn (c .0) tt (first-of cs d p)
 
 decoded-in : (code : List ℕ) → DecodedIn (decoded code)
 unfolding decoded

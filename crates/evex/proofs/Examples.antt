@@ -11,6 +11,8 @@ use Rattle.evex.specs.Decode.{noBytes, wrongFirstByte, fewerThanSixBytes
 use Rattle.evex.specs.declared.Operation.the-variants.{Add}
 use Rattle.evex.specs.declared.Rounding.{Rounding}
 use Rattle.evex.specs.declared.Rounding.the-variants.{Control, Embedded}
+use Rattle.half.specs.Modes.{modeOfBits}
+use Rattle.half.specs.declared.Mode.the-variants.{Down}
 use Rattle.evex.specs.declared.Source.the-variants as source
 use Rattle.evex.specs.declared.Base.the-variants as base
 use Rattle.evex.specs.declared.Index.the-variants as index
@@ -49,10 +51,10 @@ abbrev Examples : Type 0
 Examples =
     (decoded (bytes 0xD9 (0x40 ∷ 0x01 ∷ [])) ≡ adds Control true 1 (fromRax (pos 2) true) 7)
     × (decoded (bytes 0xC9 (0x40 ∷ 0x01 ∷ [])) ≡ adds Control true 1 (fromRax (pos 64) false) 7)
-    × (decoded (bytes 0x38 (0xC2 ∷ [])) ≡ adds (Embedded 1) false 0 (operand.Register 2) 6)
+    × (decoded (bytes 0x38 (0xC2 ∷ [])) ≡ adds (Embedded Down) false 0 (operand.Register 2) 6)
     × (decoded (bytes 0xC8 (0xC2 ∷ [])) ≡ Refused Reserved)
     × (decoded (bytes 0x48 (0xC2 ∷ [])) ≡ adds Control false 0 (operand.Register 2) 6)
 
 pub examples : Examples
-unfolding rows takesSib headOf listed first registerForm embeddedRounding lanes rounding hasSib baseBits indexOf noBase baseOf displacementAt displacementSize size N displacementOf second instruction noBytes wrongFirstByte fewerThanSixBytes wrongFixedBits notInList reservedLength zeroingWithoutMask extraSource bytesMissing longerThanFifteenBytes refusals decoded
+unfolding modeOfBits rows takesSib headOf listed first registerForm embeddedRounding lanes rounding hasSib baseBits indexOf noBase baseOf displacementAt displacementSize size N displacementOf second instruction noBytes wrongFirstByte fewerThanSixBytes wrongFixedBits notInList reservedLength zeroingWithoutMask extraSource bytesMissing longerThanFifteenBytes refusals decoded
 examples = (refl, refl, refl, refl, refl)

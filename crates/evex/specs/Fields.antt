@@ -5,6 +5,7 @@ use mathlib.Core.Bool.{Bool, cond, not, _&&_, _||_}
 use mathlib.Core.List.{List}
 use lib.Dec.{eqb}
 use lib.IntN.{ℤ, pos, _*ℤ_}
+use Rattle.half.specs.Modes.{modeOfBits}
 use Rattle.evex.specs.Bits.{bits, isSet, inverted, byte, word, signed}
 use Rattle.evex.specs.List.{rows, find, operation, hasFirst}
 use Rattle.evex.specs.declared.head.Head.{Head}
@@ -119,7 +120,7 @@ module _ (h : Head) where
   lanes = cond embeddedRounding 32 (cond (eqb lengthBits 0) 8 (cond (eqb lengthBits 1) 16 32))
 
   unfoldable pub rounding : Rounding
-  rounding = cond embeddedRounding (Embedded lengthBits) Control
+  rounding = cond embeddedRounding (Embedded (modeOfBits lengthBits)) Control
 
   -- 01, Fields, memory: rm 100 takes a SIB byte. Its low bits are the base then, as rm is without one.
   unfoldable pub hasSib : Bool

@@ -27,6 +27,7 @@ use super::bits::word_at;
 use super::list::Listed;
 use super::list::Row;
 use super::list::find;
+use half::Mode;
 
 // Byte 0 is 62. `sib` is 0 where there is no SIB byte.
 pub struct Head {
@@ -154,7 +155,8 @@ impl Head {
         ensures { λ r. ⌜ r ≡ rounding self ⌝ }
     {
         if self.embeds_rounding() {
-            return Rounding::Embedded(self.length_bits());
+            let mode = Mode::of_bits(self.length_bits() as u32);
+            return Rounding::Embedded(mode);
         }
         Rounding::Control
     }

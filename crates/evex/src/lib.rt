@@ -1,6 +1,7 @@
 // The bytes of an instruction: its fields, or why they are refused (document 01, 'Fields of an instruction').
 ghost use mathlib.Core.Path.{_≡_};
 ghost use Rattle.evex.specs.Decode.{decoded, numberOf};
+use half::Mode;
 use head::Head;
 use list::Listed;
 
@@ -19,10 +20,10 @@ pub enum Operation {
     Fused231,
 }
 
-// Whose rounding mode counts: the control word's, or the one that the instruction gives, 0 to 3.
+// Whose rounding mode counts: the control word's, or the one that the instruction gives.
 pub enum Rounding {
     Control,
-    Embedded(u8),
+    Embedded(Mode),
 }
 
 // The first source: a vector register, or none.

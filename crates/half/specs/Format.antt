@@ -40,6 +40,7 @@ abbrev pub significand : ℕ → ℕ
 significand h = cond (eqb (exponentField h) 0) (fractionField h) (1024 + fractionField h)
 
 -- "Every finite half times 2 to the 24 is a whole number": that number, with the sign left out. It is asked of finite halves alone.
+-- Subtraction of natural numbers stops at 0, here and in Round.antt, so that the exponent field 0 counts as 1 does.
 unfoldable pub units : ℕ → ℕ
 units h = significand h * 2 ^ (exponentField h - 1)
 

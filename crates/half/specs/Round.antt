@@ -37,7 +37,8 @@ result h f = record { half = h; flags = f }
 
 -- ---- two roundings to 11 significant bits
 
--- x rounded to 11 significant bits, but to no unit finer than 2 ^ -l; a number of units 2 ^ -l
+-- x rounded to 11 significant bits, but to no unit finer than 2 ^ -l; a number of units 2 ^ -l. Where x holds fewer than 2,048 of them
+-- its 11 bits would be finer, and s is 0.
 unfoldable pub significant : ℕ → Mode → Bool → Magnitude → ℕ
 significant l mode neg x =
     let s = size (whole x 1 (2 ^ l)) - 11 in

@@ -1,4 +1,7 @@
 // IEEE 754 binary16 arithmetic: six operations, each rounded once, with its six flags.
+ghost use mathlib.Core.Path.{_≡_};
+ghost use Rattle.half.specs.Modes.{modeOfBits};
+
 mod fields;
 pub mod fused;
 mod normal;
@@ -15,6 +18,20 @@ pub enum Mode {
     Down,
     Up,
     TowardZero,
+}
+
+impl Mode {
+    // The mode of two bits.
+    pub fn of_bits(bits: u32) -> Mode
+        ensures { λ r. ⌜ r ≡ modeOfBits bits ⌝ }
+    {
+        match bits {
+            0 => Mode::Nearest,
+            1 => Mode::Down,
+            2 => Mode::Up,
+            _ => Mode::TowardZero,
+        }
+    }
 }
 
 // The flags, in the order of their bits.

@@ -1,9 +1,9 @@
 -- Document 01, 'Rounding and flags' and 'Numbers the engine gets back': a mode's number, and answer 9.
 use Prim.Native.Nat.{ℕ}
 use mathlib.Core.Bool.{Bool, not, cond}
-use lib.Dec.{eqb}
+use lib.Dec.{eqb, ltb}
+use Rattle.half.specs.Modes.{modeOfBits}
 use Rattle.half.specs.declared.Mode.{Mode}
-use Rattle.half.specs.declared.Mode.the-variants.{Nearest, Down, Up, TowardZero}
 use Rattle.numbers.specs.declared.ModeNumber.{ModeNumber}
 use Rattle.numbers.specs.declared.ModeNumber.the-variants.{Means, Above}
 use Rattle.half.specs.declared.Outcome.{Outcome}
@@ -11,12 +11,7 @@ use Rattle.numbers.specs.declared.Rounded.{Rounded}
 
 -- "Modes: 0 nearest, ties to even; 1 down; 2 up; 3 toward zero."
 unfoldable pub modeOf : ℕ → ModeNumber
-modeOf n =
-    cond (eqb n 0) (Means Nearest)
-    (cond (eqb n 1) (Means Down)
-    (cond (eqb n 2) (Means Up)
-    (cond (eqb n 3) (Means TowardZero)
-    Above)))
+modeOf n = cond (ltb 3 n) Above (Means (modeOfBits n))
 
 -- "a yes or no that says whether underflow is unmasked": 0 is no
 abbrev pub yes : ℕ → Bool

@@ -28,13 +28,11 @@ pub struct Rounded {
 fn mode_of(number: u32) -> ModeNumber
     ensures { λ r. ⌜ r ≡ modeOf number ⌝ }
 {
-    match number {
-        0 => ModeNumber::Means(Mode::Nearest),
-        1 => ModeNumber::Means(Mode::Down),
-        2 => ModeNumber::Means(Mode::Up),
-        3 => ModeNumber::Means(Mode::TowardZero),
-        _ => ModeNumber::Above,
+    if 3 < number {
+        return ModeNumber::Above;
     }
+    let mode = Mode::of_bits(number);
+    ModeNumber::Means(mode)
 }
 
 fn done(o: Outcome) -> Rounded

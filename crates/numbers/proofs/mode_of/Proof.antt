@@ -1,27 +1,20 @@
-use borrow.Author.Tests.{ne-eqb}
+-- `numbers::mode_of` meets its contract: by the test.
+use borrow.Author.Needs.{needs}
+use borrow.Author.Tests.{lt-ltb, le-ltb}
 use Rattle.numbers.specs.Numbers.{modeOf}
 use Rattle.numbers.proofs.mode_of.Statement.{statement}
 use Rattle.numbers.proofs.mode_of.Tie as tie
 
 returns : tie.Need-returns
 unfolding modeOf
-returns c = rw (c .match .keys1)
+returns c = rw (lt-ltb 3 _ (c .if1 .taken))
+
+of-bits-requires : tie.Need-of-bits-requires
+of-bits-requires c κs = search needs
 
 returns-2 : tie.Need-returns-2
 unfolding modeOf
-returns-2 c = rw (c .match .keys2)
-
-returns-3 : tie.Need-returns-3
-unfolding modeOf
-returns-3 c = rw (c .match .keys3)
-
-returns-4 : tie.Need-returns-4
-unfolding modeOf
-returns-4 c = rw (c .match .keys4)
-
-returns-5 : tie.Need-returns-5
-unfolding modeOf
-returns-5 c = rw (ne-eqb _ 0 (c .match .rest .0 .0 .0 .1), ne-eqb _ 1 (c .match .rest .0 .0 .1), ne-eqb _ 2 (c .match .rest .0 .1), ne-eqb _ 3 (c .match .rest .1))
+returns-2 c = rw (le-ltb 3 _ (c .before .if1 .left), c .of-bits .ensures)
 
 pub mode-of-spec : {M : Type 1} → statement M
-mode-of-spec = tie.close (tie.spec returns returns-2 returns-3 returns-4 returns-5)
+mode-of-spec = tie.close (tie.spec returns of-bits-requires returns-2)
