@@ -18,18 +18,18 @@ each-of (x ∷ xs) h = (h x (List·Memᴰ·head refl), each-of xs (λ y k. h y (
 -- ---- what is read
 
 module _ {Hidden : ℕ → Type 0} {l m : List ℕ} (e : EqualOpen Hidden l m) where
-  -- past the end both read as 0
-  pub equal-at : (p : ℕ) → ¬ Hidden p → getD l p 0 ≡ getD m p 0
+  -- past the end both read as 0, so only a place of the lists need be open
+  pub equal-at : (p : ℕ) → (p < length l → ¬ Hidden p) → getD l p 0 ≡ getD m p 0
   equal-at p h = go (decLt p (length l))
     where
       go : Dec (p < length l) → getD l p 0 ≡ getD m p 0
-      go (yes k) = e .places p k h
+      go (yes k) = e .places p k (h k)
       go (no k) =
           let f : length l ≤ p = omega arith in
           let g : length m ≤ p = omega (arith, e .lengths) in
           List·getD-eq-default l 0 f ∙ sym (List·getD-eq-default m 0 g)
 
-  pub numbers-equal : (ps : List ℕ) → Each (λ p. ¬ Hidden p) ps → numberAt l ps ≡ numberAt m ps
+  pub numbers-equal : (ps : List ℕ) → Each (λ p. p < length l → ¬ Hidden p) ps → numberAt l ps ≡ numberAt m ps
   numbers-equal [] h = refl
   numbers-equal (p ∷ ps) h = ap₂ (λ (x y : ℕ). x + y * 256) (equal-at p (h .0)) (numbers-equal ps (h .1))
 
@@ -55,7 +55,7 @@ paste-equal {Hidden} {l} {m} at n s t e fits ls lt h =
     fits′ = omega (arith, e .lengths)
 
     go : (p : ℕ) → ¬ Hidden p → Dec (p < at) → Dec (p < at + n) → getD (paste l at s n) p 0 ≡ getD (paste m at t n) p 0
-    go p o (yes b) _ = paste-before l at s n fits hs 0 p b ∙ equal-at e p o ∙ sym (paste-before m at t n fits′ ht 0 p b)
+    go p o (yes b) _ = paste-before l at s n fits hs 0 p b ∙ equal-at e p (λ _. o) ∙ sym (paste-before m at t n fits′ ht 0 p b)
     go p o (no b) (yes c) =
         let q : at + (p - at) ≡ p = omega arith in
         subst (λ (x : ℕ). getD (paste l at s n) x 0 ≡ getD (paste m at t n) x 0) q
@@ -66,5 +66,5 @@ paste-equal {Hidden} {l} {m} at n s t e fits ls lt h =
         let q : at + n + (p - (at + n)) ≡ p = omega arith in
         subst (λ (x : ℕ). getD (paste l at s n) x 0 ≡ getD (paste m at t n) x 0) q
         (paste-after l at s n fits hs 0 (p - (at + n))
-        ∙ equal-at e (at + n + (p - (at + n))) (subst (λ (x : ℕ). ¬ Hidden x) (sym q) o)
+        ∙ equal-at e (at + n + (p - (at + n))) (λ _. subst (λ (x : ℕ). ¬ Hidden x) (sym q) o)
         ∙ sym (paste-after m at t n fits′ ht 0 (p - (at + n))))

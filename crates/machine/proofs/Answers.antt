@@ -23,6 +23,7 @@ use Rattle.machine.specs.Memory.{needsOutside}
 use Rattle.machine.specs.Lanes.{gathered, raisesUnmasked, recorded, controlAfter}
 use Rattle.machine.specs.Step.{ofFields, beforeSeven, conditions, answerOf, refused, stopped, completed, step}
 use Rattle.machine.specs.Answers.{InOrder, Leaves, Answers, BytesAfter}
+use Rattle.lists.proofs.Tests.{either}
 use Rattle.lists.proofs.First.{NonZero}
 use Rattle.machine.proofs.First.{in-order}
 use Rattle.machine.proofs.Ends.{before-non-zero, by-decoded, Way, early, fields, way, step-early, step-decoded}
@@ -88,16 +89,12 @@ module _ (memory : List ℕ) (s : State) where
   leaves : (code : List ℕ) → Leaves s (step memory s code)
   leaves code = go (way s code)
     where
-      either : (t : Bool) {x y : Stepped} → Leaves s x → Leaves s y → Leaves s (cond t x y)
-      either true h k = h
-      either false h k = k
-
       go : Way s code → Leaves s (step memory s code)
       go (early n e h) = rw (step-early memory s code n e h) (refused-leaves s (suc n) (λ z. omega arith) (λ z. omega arith))
       go (fields i d) =
           rw (step-decoded memory s code d)
-          (either (needsOutside s i (length memory)) (refused-leaves s 7 (λ z. omega arith) (λ z. omega arith))
-          (either (raisesUnmasked s i (gathered memory s i)) (stopped-leaves i) (completed-leaves i)))
+          (either (Leaves s) (needsOutside s i (length memory)) (refused-leaves s 7 (λ z. omega arith) (λ z. omega arith))
+          (either (Leaves s) (raisesUnmasked s i (gathered memory s i)) (stopped-leaves i) (completed-leaves i)))
 
 pub answers : Answers
 answers memory s code = (order memory s code, leaves memory s code)

@@ -8,27 +8,24 @@ use lib.Dec.{lit≤}
 use Rattle.half.specs.Format.{isNan, isSignalling, isSubnormal}
 use Rattle.half.specs.Exact.{Magnitude}
 use Rattle.half.specs.Round.{IE, DE, ZE, UE, PE, flag, result, tiny, inexact, overflows, roundedHalf}
-use Rattle.numbers.specs.Numbers.{modeOf, yes, answered}
 use Rattle.lists.specs.Lists.{some}
+use Rattle.lists.proofs.Tests.{either}
 use Rattle.lists.proofs.Tables.{or-table-below}
 use Rattle.half.specs.Operations.{invalid, exactly, nanResult, exactSum, withDenormals, unlessNan, halfAdd, halfSubtract, halfMultiply, halfDivide, halfRoot, halfMultiplyAdd}
 use Rattle.half.specs.declared.Mode.{Mode}
-use Rattle.numbers.specs.declared.ModeNumber.{ModeNumber}
-use Rattle.numbers.specs.declared.ModeNumber.the-variants.{Means, Above}
 use Rattle.half.specs.declared.Outcome.{Outcome}
 use Rattle.evex.specs.declared.Operation.{Operation}
 use Rattle.evex.specs.declared.Operation.the-variants.{Add, Multiply, Subtract, Divide, SquareRoot, Fused132, Fused213, Fused231}
 use Rattle.machine.specs.State.{State}
-use Rattle.machine.specs.Lanes.{Sources, laneOutcome, laneResult, raised}
+use Rattle.machine.specs.Memory.{on}
+use Rattle.machine.specs.Lanes.{Sources, laneOutcome, raised}
 use Rattle.evex.specs.declared.Instruction.{Instruction}
 
 pub record Six (o : Outcome) : Type 0 where
   pub six : o .flags < 64
 
--- what holds of both holds of the one that a test picks
-either : (t : Bool) (x y : Outcome) → Six x → Six y → Six (cond t x y)
-either true x y p q = p
-either false x y p q = q
+picked : (t : Bool) (x y : Outcome) → Six x → Six y → Six (cond t x y)
+picked t x y = either Six t
 
 -- a flag below 64, raised or not
 raised-six : (f : ℕ) (t : Bool) → f < 64 → flag f t < 64
@@ -41,7 +38,7 @@ plain h = record { six = h }
 -- ---- the pieces of the operations
 
 nan-six : (hs : List ℕ) {o : Outcome} → Six o → Six (unlessNan hs o)
-nan-six hs h = either (some isNan hs) (nanResult hs) _ (plain (raised-six IE (some isSignalling hs) (lit≤ tt))) h
+nan-six hs h = picked (some isNan hs) (nanResult hs) _ (plain (raised-six IE (some isSignalling hs) (lit≤ tt))) h
 
 invalid-six : Six invalid
 invalid-six = plain (lit≤ tt)
@@ -58,19 +55,19 @@ exactly-six h = plain (lit≤ tt)
 rounded-six : (m : Mode) (u neg : Bool) (x : Magnitude) → Six (roundedHalf m u neg x)
 unfolding roundedHalf
 rounded-six m u neg x =
-    either (overflows m neg x) _ _ (plain (lit≤ tt))
+    picked (overflows m neg x) _ _ (plain (lit≤ tt))
     (plain (or-lt 6 _ _ (raised-six PE (inexact m neg x) (lit≤ tt)) (raised-six UE (tiny m neg x && (u || inexact m neg x)) (lit≤ tt))))
 
 sum-six : (m : Mode) (u sx : Bool) (x : ℕ) (sy : Bool) (y d : ℕ) → Six (exactSum m u sx x sy y d)
 unfolding exactSum
-sum-six m u sx x sy y d = search (either, rounded-six, exactly-six)
+sum-six m u sx x sy y d = search (picked, rounded-six, exactly-six)
 
-ruleset pieces = (nan-six, invalid-six, zero-divide-six, denormals-six, exactly-six, rounded-six, sum-six, either)
+ruleset pieces = (nan-six, invalid-six, zero-divide-six, denormals-six, exactly-six, rounded-six, sum-six, picked)
 
 -- ---- the operations, a lane, all lanes
 
 lane-six : (op : Operation) (m : Mode) (u : Bool) (d f x : ℕ) → Six (laneOutcome op m u d f x)
-unfolding halfAdd halfSubtract halfMultiply halfDivide halfRoot halfMultiplyAdd
+unfolding laneOutcome halfAdd halfSubtract halfMultiply halfDivide halfRoot halfMultiplyAdd
 lane-six Add m u d f x = search pieces depth 10
 lane-six Multiply m u d f x = search pieces depth 10
 lane-six Subtract m u d f x = search pieces depth 10
@@ -80,20 +77,6 @@ lane-six Fused132 m u d f x = search pieces depth 10
 lane-six Fused213 m u d f x = search pieces depth 10
 lane-six Fused231 m u d f x = search pieces depth 10
 
--- no flags with a mode above 3
-answered-six : (n : ModeNumber) (f : Mode → Outcome) → ((m : Mode) → Six (f m)) → answered n f .flags < 64
-unfolding answered
-answered-six (Means m) f h = h m .six
-answered-six Above f h = lit≤ tt
-
-result-six : (op : Operation) (mode underflow d f x : ℕ) → laneResult op mode underflow d f x .flags < 64
-unfolding laneResult
-result-six op mode underflow d f x = answered-six (modeOf mode) _ (λ m. lane-six op m (yes underflow) d f x)
-
-either-below : (t : Bool) (n m : ℕ) → n < 64 → m < 64 → cond t n m < 64
-either-below true n m h k = h
-either-below false n m h k = k
-
 pub raised-below : (s : State) (i : Instruction) (g : Sources) → raised s i g < 64
 unfolding raised
-raised-below s i g = or-table-below 6 32 _ (λ j. search (result-six, either-below, lit≤))
+raised-below s i g = or-table-below 6 32 _ (λ j. either (λ n. n < 64) (on s i j) (lane-six (i .operation) _ _ _ _ _ .six) (lit≤ tt))

@@ -17,6 +17,7 @@ use Rattle.evex.specs.declared.Operand.the-variants as operand
 use Rattle.evex.specs.declared.Instruction.{Instruction}
 use Rattle.evex.proofs.Bounds.{bounds}
 use Rattle.lists.specs.Lists.{Each}
+use Rattle.lists.proofs.Tests.{either-related, either-equal}
 use Rattle.lists.proofs.Tables.{table-equal, length-table, getD-table, part-at}
 use Rattle.machine.specs.State.{State, registerAt, lanePlaces}
 use Rattle.machine.specs.Memory.{on, nextPointer, bytesRead, needsOutside}
@@ -25,18 +26,6 @@ use Rattle.machine.specs.Step.{wrongVectorFile, highControlBit, beforeSe
 use Rattle.machine.specs.TwoRuns.{EqualOpen, laneNumber, Alike, AlikeAfter, AlikeThroughout, HiddenUnused, HiddenUnusedThroughout, TwoRuns}
 use Rattle.machine.proofs.Agree.{each-of, equal-at, numbers-equal, paste-equal}
 use Rattle.machine.proofs.Ends.{Way, early, fields, way, decoded-size, step-early, step-decoded}
-
--- ---- tests
-
--- two choices by one test agree where what is chosen does
-cond-equal : {A : Type 0} {x y : A} (z : A) (t : Bool) → (t ≡ true → x ≡ y) → cond t x z ≡ cond t y z
-cond-equal z true h = h refl
-cond-equal z false h = refl
-
--- two choices by one test are related where what is chosen is
-cond-related : {A : Type 0} (R : A → A → Type 0) {a b c d : A} (t : Bool) → R a b → R c d → R (cond t a c) (cond t b d)
-cond-related R true h k = h
-cond-related R false h k = k
 
 -- ---- what looks at the registers alone
 
@@ -71,9 +60,9 @@ module _ (HiddenLane HiddenByte : ℕ → Type 0) where
   HiddenPlace p = HiddenLane (laneNumber p)
 
   -- an open lane's bytes are open, in any register
-  lane-open : (n j : ℕ) → j < 32 → ¬ HiddenLane j → Each (λ p. ¬ HiddenPlace p) (lanePlaces n j)
-  lane-open n j h o =
-      (subst (λ (x : ℕ). ¬ HiddenLane x) (omega arith) o, (subst (λ (x : ℕ). ¬ HiddenLane x) (omega arith) o, tt))
+  lane-open : (l n j : ℕ) → j < 32 → ¬ HiddenLane j → Each (λ p. p < l → ¬ HiddenPlace p) (lanePlaces n j)
+  lane-open l n j h o =
+      ((λ _. subst (λ (x : ℕ). ¬ HiddenLane x) (omega arith) o), ((λ _. subst (λ (x : ℕ). ¬ HiddenLane x) (omega arith) o), tt))
 
   module _ (s : State) {v : List ℕ} (files : EqualOpen HiddenPlace (s .vectors) v) (i : Instruction) where
     -- ---- what is read
@@ -82,27 +71,27 @@ module _ (HiddenLane HiddenByte : ℕ → Type 0) where
       registers-equal : (n : ℕ) → registerHalves (on s i) (s .vectors) n ≡ registerHalves (on s i) v n
       unfolding registerHalves
       registers-equal n =
-          table-equal 32 (λ j k. cond-equal 0 (on s i j) (λ t. numbers-equal files (lanePlaces n j) (lane-open n j k (lanes j t))))
+          table-equal 32 (λ j k. either-equal 0 (on s i j) (λ t. numbers-equal files (lanePlaces n j) (lane-open _ n j k (lanes j t))))
 
       first-equal : (x : Source) → firstHalves (on s i) (s .vectors) x ≡ firstHalves (on s i) v x
       first-equal source.None = refl
       first-equal (source.Register n) = registers-equal n
 
-      second-equal : (x : Operand) → ((j : ℕ) → on s i j ≡ true → Each (λ a. ¬ HiddenByte a) (bytesRead s i x j))
+      seeither-equal : (x : Operand) → ((j : ℕ) → on s i j ≡ true → Each (λ a. a < length memory₁ → ¬ HiddenByte a) (bytesRead s i x j))
           → secondHalves (on s i) (s .vectors) memory₁ (s .general) (nextPointer s i) x ≡ secondHalves (on s i) v memory₂ (s .general) (nextPointer s i) x
       unfolding bytesRead memoryHalves
-      second-equal (operand.Register n) bytes = registers-equal n
-      second-equal (operand.Memory a broadcast) bytes =
-          table-equal 32 (λ j k. cond-equal 0 (on s i j) (λ t. numbers-equal memories (bytesRead s i (operand.Memory a broadcast) j) (bytes j t)))
+      seeither-equal (operand.Register n) bytes = registers-equal n
+      seeither-equal (operand.Memory a broadcast) bytes =
+          table-equal 32 (λ j k. either-equal 0 (on s i j) (λ t. numbers-equal memories (bytesRead s i (operand.Memory a broadcast) j) (bytes j t)))
 
-      gathered-equal : ((j : ℕ) → on s i j ≡ true → Each (λ a. ¬ HiddenByte a) (bytesRead s i (i .second) j))
+      gathered-equal : ((j : ℕ) → on s i j ≡ true → Each (λ a. a < length memory₁ → ¬ HiddenByte a) (bytesRead s i (i .second) j))
           → gathered memory₁ s i ≡ gathered memory₂ (withVectors s v) i
       unfolding gathered on
       gathered-equal bytes = λ x.
           record {
             destination = registers-equal (i .destination) x;
             first = first-equal (i .first) x;
-            second = second-equal (i .second) bytes x;
+            second = seeither-equal (i .second) bytes x;
           }
 
     -- ---- what is written
@@ -132,7 +121,7 @@ module _ (HiddenLane HiddenByte : ℕ → Type 0) where
           paste-equal (registerAt (i .destination)) 64 (newRegister s i halves (old s)) (newRegister (withVectors s v) i halves (old (withVectors s v)))
           files fits (new-length s) (new-length (withVectors s v))
           (λ k h o. new-byte s k h
-          ∙ ap (newByte s i halves k) (equal-at files (registerAt (i .destination) + k) o)
+          ∙ ap (newByte s i halves k) (equal-at files (registerAt (i .destination) + k) (λ _. o))
           ∙ sym (new-byte (withVectors s v) k h))
 
   -- ---- a step
@@ -170,7 +159,7 @@ module _ (HiddenLane HiddenByte : ℕ → Type 0) where
                 };
           })
 
-    same-step : (s : State) {v : List ℕ} (code : List ℕ) → EqualOpen HiddenPlace (s .vectors) v → HiddenUnused HiddenLane HiddenByte s code
+    same-step : (s : State) {v : List ℕ} (code : List ℕ) → EqualOpen HiddenPlace (s .vectors) v → HiddenUnused HiddenLane HiddenByte memory₁ s code
         → AlikeAfter HiddenLane (step memory₁ s code) (step memory₂ (withVectors s v) code)
     same-step s {v} code files unused = go (way s code)
       where
@@ -183,11 +172,11 @@ module _ (HiddenLane HiddenByte : ℕ → Type 0) where
             gathered-equal s files i memories (unused .lanes i d) (λ j t. each-of _ (λ a m. unused .bytes i d a (j, t, m))) in
             rw (step-decoded memory₁ s code d, step-decoded memory₂ (withVectors s v) code {i = i} (rw (before-same s v code (files .lengths)) d))
             (rw (outside-same s v i, raises-same s v i, ← g, ← memories .lengths)
-            (cond-related (AlikeAfter HiddenLane) (needsOutside s i (length memory₁)) (refused-alike 7 s files)
-            (cond-related (AlikeAfter HiddenLane) (raisesUnmasked s i (gathered memory₁ s i)) (stopped-alike s files i g)
+            (either-related (AlikeAfter HiddenLane) (needsOutside s i (length memory₁)) (refused-alike 7 s files)
+            (either-related (AlikeAfter HiddenLane) (raisesUnmasked s i (gathered memory₁ s i)) (stopped-alike s files i g)
             (completed-alike s files i g (omega (arith, bounds code (d .1) .destination, decoded-size s code (d .0)))))))
 
-    step-alike : (s₁ s₂ : State) (code : List ℕ) → Alike HiddenLane s₁ s₂ → HiddenUnused HiddenLane HiddenByte s₁ code
+    step-alike : (s₁ s₂ : State) (code : List ℕ) → Alike HiddenLane s₁ s₂ → HiddenUnused HiddenLane HiddenByte memory₁ s₁ code
         → AlikeAfter HiddenLane (step memory₁ s₁ code) (step memory₂ s₂ code)
     step-alike s₁ s₂ code a unused = subst (λ (t : State). AlikeAfter HiddenLane (step memory₁ s₁ code) (step memory₂ t code)) same (same-step s₁ code (a .vectors) unused)
       where

@@ -7,13 +7,11 @@ use lib.Bits.{bitAnd, bitOr}
 use lib.Dec.{eqb, ltb}
 use lib.ListN.{getD, take, drop}
 use lib.Seq.{paste}
-use Rattle.numbers.specs.Numbers.{modeOf, yes, answered}
 use Rattle.half.specs.Operations.{halfAdd, halfSubtract, halfMultiply, halfDivide, halfRoot, halfMultiplyAdd}
 use Rattle.half.specs.declared.Mode.{Mode}
 use Rattle.half.specs.declared.Outcome.{Outcome}
-use Rattle.numbers.specs.declared.Rounded.{Rounded}
 use Rattle.lists.specs.Lists.{orAll, table, numberAt}
-use Rattle.evex.specs.Bits.{bits}
+use Rattle.evex.specs.Bits.{isSet}
 use Rattle.evex.specs.declared.Operation.{Operation}
 use Rattle.evex.specs.declared.Operation.the-variants.{Add, Multiply, Subtract, Divide, SquareRoot, Fused132, Fused213, Fused231}
 use Rattle.evex.specs.declared.Rounding.{Rounding}
@@ -23,23 +21,23 @@ use Rattle.evex.specs.declared.Source.the-variants as source
 use Rattle.evex.specs.declared.Operand.{Operand}
 use Rattle.evex.specs.declared.Operand.the-variants as operand
 use Rattle.evex.specs.declared.Instruction.{Instruction}
-use Rattle.machine.specs.State.{State, registerAt, lanePlaces, unmaskedFlags, modeNumber}
+use Rattle.machine.specs.State.{State, registerAt, lanePlaces, unmaskedFlags, controlMode}
 use Rattle.machine.specs.Memory.{addressFrom, wordFrom, wordBytes, on, nextPointer}
 
 -- ---- 01, Fields of an instruction: "In register form with b set .. the length bits are the rounding mode, all six exceptions count
 -- as masked and no flag is recorded."
 
-abbrev pub roundingMode : Rounding → ℕ → ℕ
-roundingMode Control control = modeNumber control
+abbrev pub roundingMode : Rounding → ℕ → Mode
+roundingMode Control control = controlMode control
 roundingMode (Embedded mode) control = mode
 
 abbrev pub unmasked : Rounding → ℕ → ℕ
 unmasked Control control = unmaskedFlags control
 unmasked (Embedded mode) control = 0
 
--- not 0 where UE, bit 4, is unmasked
-abbrev pub underflowUnmasked : Rounding → ℕ → ℕ
-underflowUnmasked rounding control = bits (unmasked rounding control) 4 1
+-- UE, bit 4, is unmasked
+abbrev pub unmaskedUE : Rounding → ℕ → Bool
+unmaskedUE rounding control = isSet (unmasked rounding control) 4
 
 abbrev pub recorded : Rounding → ℕ → ℕ → ℕ
 recorded Control control flags = bitOr control flags
@@ -86,7 +84,7 @@ gathered memory s i =
 -- ---- a lane: "Products: 132 dest*src3+src2; 213 src2*dest+src3; 231 src2*src3+dest", d the destination's lane, f and x those of the
 -- first source (src2) and of the second (src3)
 
-abbrev pub laneOutcome : Operation → Mode → Bool → ℕ → ℕ → ℕ → Outcome
+unfoldable pub laneOutcome : Operation → Mode → Bool → ℕ → ℕ → ℕ → Outcome
 laneOutcome Add m u d f x = halfAdd m u f x
 laneOutcome Multiply m u d f x = halfMultiply m u f x
 laneOutcome Subtract m u d f x = halfSubtract m u f x
@@ -96,16 +94,12 @@ laneOutcome Fused132 m u d f x = halfMultiplyAdd m u d x f
 laneOutcome Fused213 m u d f x = halfMultiplyAdd m u f d x
 laneOutcome Fused231 m u d f x = halfMultiplyAdd m u f x d
 
--- By the number of the mode, and a number that is not 0 where UE is unmasked. A mode is two bits here, so that answer 9 is never given.
-unfoldable pub laneResult : Operation → ℕ → ℕ → ℕ → ℕ → ℕ → Rounded
-laneResult op mode underflow d f x = answered (modeOf mode) (λ (m : Mode). laneOutcome op m (yes underflow) d f x)
-
 -- ---- all lanes
 
 module _ (s : State) (i : Instruction) (g : Sources) where
-  abbrev pub laneOf : ℕ → Rounded
+  abbrev pub laneOf : ℕ → Outcome
   laneOf j =
-      laneResult (i .operation) (roundingMode (i .rounding) (s .control)) (underflowUnmasked (i .rounding) (s .control))
+      laneOutcome (i .operation) (roundingMode (i .rounding) (s .control)) (unmaskedUE (i .rounding) (s .control))
       (getD (g .destination) j 0) (getD (g .first) j 0) (getD (g .second) j 0)
 
   unfoldable pub results : List ℕ

@@ -1,5 +1,5 @@
 -- Document 01, 'Fields of an instruction': addresses, which lanes are on, and the memory bytes that are needed.
-use Prim.Native.Nat.{ℕ, suc, _+_, _-_, _*_, _%_, _^_}
+use Prim.Native.Nat.{ℕ, _+_, _-_, _*_, _%_, _^_}
 use mathlib.Core.Bool.{Bool, cond, _&&_, _||_}
 use mathlib.Core.List.{List, [], _∷_}
 use lib.Dec.{eqb, ltb, leb}
@@ -19,10 +19,10 @@ use Rattle.machine.specs.State.{State}
 
 -- ---- "Addresses are sums modulo 2 to the 64": by the general registers, and where the next instruction stands
 
--- a displacement modulo 2 to the 64: a signed number above -2 ^ 64
+-- a signed number modulo 2 to the 64; `negsuc n` is -1 - n
 abbrev pub wrapped : ℤ → ℕ
 wrapped (pos n) = n % 2 ^ 64
-wrapped (negsuc n) = 2 ^ 64 - suc n % 2 ^ 64
+wrapped (negsuc n) = 2 ^ 64 - 1 - n % 2 ^ 64
 
 abbrev pub baseValue : List ℕ → ℕ → Base → ℕ
 baseValue general next base.None = 0

@@ -1,6 +1,8 @@
 -- Document 01, 'What the machine carries', and the control word of 'Rounding and flags'.
 use Prim.Native.Nat.{ℕ, _+_, _-_, _*_}
 use mathlib.Core.List.{List, [], _∷_}
+use Rattle.half.specs.Modes.{modeOfBits}
+use Rattle.half.specs.declared.Mode.{Mode}
 use Rattle.evex.specs.Bits.{bits}
 use Rattle.machine.specs.declared.Answer.{Answer}
 
@@ -42,5 +44,5 @@ lanePlaces n j = (registerAt n + 2 * j) ∷ (registerAt n + 2 * j + 1) ∷ []
 abbrev pub unmaskedFlags : ℕ → ℕ
 unmaskedFlags control = 63 - bits control 7 6
 
-abbrev pub modeNumber : ℕ → ℕ
-modeNumber control = bits control 13 2
+abbrev pub controlMode : ℕ → Mode
+controlMode control = modeOfBits (bits control 13 2)

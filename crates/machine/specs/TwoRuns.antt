@@ -46,15 +46,15 @@ abbrev pub Needs : State → Instruction → ℕ → Type 0
 Needs s i a = (j : ℕ) × SwitchesOn s i j × List·Memᴰ a (bytesRead s i (i .second) j)
 
 module _ (HiddenLane HiddenByte : ℕ → Type 0) where
-  -- hidden lanes stay off and hidden bytes are not needed
-  pub record HiddenUnused (s : State) (code : List ℕ) : Type 0 where
+  -- hidden lanes stay off and hidden bytes are not needed; a needed address outside memory is no byte of it, and may count as hidden
+  pub record HiddenUnused (memory : List ℕ) (s : State) (code : List ℕ) : Type 0 where
     pub lanes : (i : Instruction) → IsDecoded s code i → (j : ℕ) → SwitchesOn s i j → ¬ HiddenLane j
-    pub bytes : (i : Instruction) → IsDecoded s code i → (a : ℕ) → Needs s i a → ¬ HiddenByte a
+    pub bytes : (i : Instruction) → IsDecoded s code i → (a : ℕ) → Needs s i a → a < length memory → ¬ HiddenByte a
 
   -- in every step of the run that begins here
   abbrev pub HiddenUnusedThroughout : List ℕ → State → List (List ℕ) → Type 0
   HiddenUnusedThroughout memory s [] = Unit {0}
-  HiddenUnusedThroughout memory s (code ∷ codes) = HiddenUnused s code × HiddenUnusedThroughout memory (step memory s code .state) codes
+  HiddenUnusedThroughout memory s (code ∷ codes) = HiddenUnused memory s code × HiddenUnusedThroughout memory (step memory s code .state) codes
 
 -- After a step: answers and lengths are equal too.
 pub record AlikeAfter (HiddenLane : ℕ → Type 0) (o₁ o₂ : Stepped) : Type 0 where
