@@ -19,7 +19,7 @@ use Rattle.lists.specs.Lists.{some, table}
 use Rattle.lists.proofs.Tables.{table-equal, getD-table}
 use Rattle.machine.specs.State.{State, Stepped, registerAt, steppedOf}
 use Rattle.machine.specs.Memory.{isOn, on, nextPointer, bytesRead, needsOutside}
-use Rattle.machine.specs.Lanes.{Sources, roundingMode, unmasked, underflowUnmasked, recorded, gathered, registerHalves, firstHalves, secondHalves, results, raised, raisesUnmasked, controlAfter, newRegister, vectorsAfter}
+use Rattle.machine.specs.Lanes.{Sources, roundingMode, unmasked, unmaskedUE, recorded, gathered, registerHalves, firstHalves, secondHalves, results, raised, raisesUnmasked, controlAfter, newRegister, vectorsAfter}
 use Rattle.machine.specs.Step.{refused, stopped, completed, step}
 use Rattle.machine.proofs.Ends.{refuses-memory, stops, completes}
 use Rattle.step.specs.declared.lanes.Results.{Results}
@@ -41,7 +41,7 @@ outside-by s i length (operand.Memory a broadcast) = refl
 
 module _ (s : State) (i : Instruction) (g : Sources) where
   results-is :
-      resultsWhere (on s i) (i .operation) (roundingMode (i .rounding) (s .control)) (underflowUnmasked (i .rounding) (s .control))
+      resultsWhere (on s i) (i .operation) (roundingMode (i .rounding) (s .control)) (unmaskedUE (i .rounding) (s .control))
       (g .destination) (g .first) (g .second)
       ≡ record { halves = results s i g; flags = raised s i g }
   unfolding resultsWhere results raised
@@ -90,7 +90,7 @@ module _ (memory : List ℕ) (s : State) (i : Instruction) (p : ℕ → Bool) (e
   refuses t = rw (← outside-is, t)
 
   module _ (inside : outside p (length memory) (s .general) next (i .second) ≡ false) (r : Results)
-      (computed : r ≡ resultsWhere p (i .operation) (roundingMode (i .rounding) (s .control)) (underflowUnmasked (i .rounding) (s .control))
+      (computed : r ≡ resultsWhere p (i .operation) (roundingMode (i .rounding) (s .control)) (unmaskedUE (i .rounding) (s .control))
       (registerHalves p (s .vectors) (i .destination)) (firstHalves p (s .vectors) (i .first))
       (secondHalves p (s .vectors) memory (s .general) next (i .second))) where
     computed-is : r ≡ record { halves = results s i (gathered memory s i); flags = raised s i (gathered memory s i) }

@@ -7,7 +7,8 @@ use lib.Bits.{bitAnd}
 use lib.Dec.{eqb, ltb, leb}
 use lib.ListN.{length, getD, take, drop}
 use lib.Seq.{paste}
-use Rattle.numbers.specs.declared.Rounded.{Rounded}
+use Rattle.half.specs.declared.Mode.{Mode}
+use Rattle.half.specs.declared.Outcome.{Outcome}
 use Rattle.evex.specs.Decode.{numberOf}
 use Rattle.evex.specs.declared.Operation.{Operation}
 use Rattle.evex.specs.declared.Operand.{Operand}
@@ -19,7 +20,7 @@ use Rattle.machine.specs.declared.Answer.{Answer}
 use Rattle.lists.specs.Lists.{some, orAll, table}
 use Rattle.machine.specs.State.{State, Stepped, registerAt}
 use Rattle.machine.specs.Memory.{addressFrom, wordFrom, wordBytes, needsOutside}
-use Rattle.machine.specs.Lanes.{lanesOn, laneResult, unmasked, recorded, gathered, raisesUnmasked}
+use Rattle.machine.specs.Lanes.{lanesOn, laneOutcome, unmasked, recorded, gathered, raisesUnmasked}
 use Rattle.machine.specs.Step.{refused, stopped, completed}
 use Rattle.step.specs.declared.lanes.Results.{Results}
 
@@ -42,9 +43,9 @@ module _ (on : ℕ → Bool) where
 
   -- ---- lanes
 
-  module _ (op : Operation) (mode underflow : ℕ) (d f x : List ℕ) where
-    abbrev pub laneAt : ℕ → Rounded
-    laneAt j = laneResult op mode underflow (getD d j 0) (getD f j 0) (getD x j 0)
+  module _ (op : Operation) (mode : Mode) (ue : Bool) (d f x : List ℕ) where
+    abbrev pub laneAt : ℕ → Outcome
+    laneAt j = laneOutcome op mode ue (getD d j 0) (getD f j 0) (getD x j 0)
 
     unfoldable pub resultsWhere : Results
     resultsWhere =
@@ -54,8 +55,8 @@ module _ (on : ℕ → Bool) where
         }
 
 -- a lane that is off
-abbrev pub nothing : Rounded
-nothing = record { half = 0; flags = 0; number = 0 }
+abbrev pub nothing : Outcome
+nothing = record { half = 0; flags = 0 }
 
 -- ---- the destination
 

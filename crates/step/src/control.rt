@@ -3,19 +3,20 @@ ghost use mathlib.Core.Path.{_≡_};
 ghost use mathlib.Core.Bool.{not};
 ghost use lib.Bits.{bitAnd, bitOr};
 ghost use lib.Dec.{eqb};
-ghost use Rattle.machine.specs.State.{modeNumber, unmaskedFlags};
-ghost use Rattle.machine.specs.Lanes.{roundingMode, unmasked, underflowUnmasked, recorded};
+ghost use Rattle.machine.specs.State.{controlMode, unmaskedFlags};
+ghost use Rattle.machine.specs.Lanes.{roundingMode, unmasked, unmaskedUE, recorded};
 use evex::Rounding;
+use half::Mode;
 
 pub struct Control {
     pub bits: u32,
 }
 
 impl Control {
-    fn mode(self) -> u32
-        ensures { λ r. ⌜ r ≡ modeNumber (self .bits) ⌝ }
+    fn mode(self) -> Mode
+        ensures { λ r. ⌜ r ≡ controlMode (self .bits) ⌝ }
     {
-        (self.bits >> 13) % 4
+        Mode::of_bits((self.bits >> 13) % 4)
     }
 
     // The exceptions whose mask bit is 0, as flags.
@@ -35,12 +36,12 @@ impl Control {
 
     // Embedded rounding gives its own mode, counts all exceptions as masked, and records none.
 
-    pub(crate) fn rounding_mode(self, rounding: Rounding) -> u32
+    pub(crate) fn rounding_mode(self, rounding: Rounding) -> Mode
         ensures { λ r. ⌜ r ≡ roundingMode rounding (self .bits) ⌝ }
     {
         match rounding {
             Rounding::Control => self.mode(),
-            Rounding::Embedded(mode) => mode as u32,
+            Rounding::Embedded(mode) => mode,
         }
     }
 
@@ -53,11 +54,11 @@ impl Control {
         }
     }
 
-    // Whether UE is unmasked: 1, or 0.
-    pub(crate) fn underflow(self, rounding: Rounding) -> u32
-        ensures { λ r. ⌜ r ≡ underflowUnmasked rounding (self .bits) ⌝ }
+    // Whether UE, bit 4, is unmasked.
+    pub(crate) fn unmasked_ue(self, rounding: Rounding) -> bool
+        ensures { λ r. ⌜ r ≡ unmaskedUE rounding (self .bits) ⌝ }
     {
-        ((self.unmasked(rounding) >> 4) % 2) as u32
+        (self.unmasked(rounding) >> 4) % 2 == 1
     }
 
     pub(crate) fn recorded(self, rounding: Rounding, flags: u8) -> Control

@@ -109,8 +109,8 @@ fn execute(
     let rounding = i.rounding;
     let word = Control { bits: *control };
     let mode = word.rounding_mode(rounding);
-    let underflow = word.underflow(rounding);
-    let results = all_lanes(on, operation, mode, underflow, d, f, x);
+    let ue = word.unmasked_ue(rounding);
+    let results = all_lanes(on, operation, mode, ue, d, f, x);
     finish(vectors, control, pointer, i, on, next, results)
 }
 

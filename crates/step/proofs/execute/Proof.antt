@@ -47,8 +47,8 @@ second-halves-requires c κs =
 rounding-mode-requires : tie.Need-rounding-mode-requires
 rounding-mode-requires c κs = search needs
 
-underflow-requires : tie.Need-underflow-requires
-underflow-requires c κs = search needs
+unmasked-ue-requires : tie.Need-unmasked-ue-requires
+unmasked-ue-requires c κs = search needs
 
 all-lanes-requires : tie.Need-all-lanes-requires
 all-lanes-requires c κs = search needs
@@ -71,7 +71,7 @@ returns-2 c =
     (lanes .all-lanes .result)
     (rw (
       lanes .before .before .rounding-mode .ensures,
-      lanes .before .underflow .ensures,
+      lanes .before .unmasked-ue .ensures,
       lanes .before .before .before .before .before .before .before .before .register-halves .ensures,
       lanes .before .before .before .before .before .before .first-halves .ensures,
       lanes .before .before .before .before .second-halves .ensures,
@@ -92,7 +92,7 @@ execute-spec =
     first-halves-requires
     second-halves-requires
     rounding-mode-requires
-    underflow-requires
+    unmasked-ue-requires
     all-lanes-requires
     finish-requires
     same-length

@@ -11,11 +11,11 @@ use Rattle.step.proofs.lanes.all_lanes.Statement.{statement}
 use Rattle.step.proofs.lanes.all_lanes.Tie as tie
 
 abbrev Inv-loop : tie.InvT-loop
-Inv-loop on operation mode underflow d f x halves₀ flags₀ j₀ halves flags j = Filled (λ k. cond (isSet on k) (laneAt (isSet on) operation mode underflow d f x k .half) 0) 32 halves₀ halves j
-    × Ored (λ k. cond (isSet on k) (laneAt (isSet on) operation mode underflow d f x k .flags) 0) flags j
+Inv-loop on operation mode ue d f x halves₀ flags₀ j₀ halves flags j = Filled (λ k. cond (isSet on k) (laneAt (isSet on) operation mode ue d f x k .half) 0) 32 halves₀ halves j
+    × Ored (λ k. cond (isSet on k) (laneAt (isSet on) operation mode ue d f x k .flags) 0) flags j
 
 abbrev μ-loop : tie.MeasureT-loop
-μ-loop on operation mode underflow d f x halves₀ flags₀ j₀ halves flags j = 32 - j
+μ-loop on operation mode ue d f x halves₀ flags₀ j₀ halves flags j = 32 - j
 
 loop-holds : tie.Need-loop-holds Inv-loop μ-loop
 loop-holds c = (none refl, or-none)
@@ -61,7 +61,7 @@ loop-again c =
     let turn : tie.At-loop Inv-loop μ-loop = c .before .before .before .before in
     let args = turn .before .args in
     let on = isSet (args .on) in
-    let lane = laneAt on (args .operation) (args .mode) (args .underflow) (args .t5) (args .t6) (args .t7) (turn .loop .j) in (
+    let lane = laneAt on (args .operation) (args .mode) (args .ue) (args .t5) (args .t6) (args .t7) (turn .loop .j) in (
       more (turn .loop .inv .0) (omega arith) (rw (c .before .lane-if .ensures, c .before .before .has .ensures) (half-if (on (turn .loop .j)) lane)),
       or-more (turn .loop .inv .1) (rw (c .before .lane-if .ensures, c .before .before .has .ensures) (flags-if (on (turn .loop .j)) lane)),
     )

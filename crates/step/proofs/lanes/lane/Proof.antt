@@ -1,5 +1,5 @@
 -- `step::lanes::lane` meets its contract: by the operation; each cites what the arithmetic promises.
-use Rattle.machine.specs.Lanes.{laneResult}
+use Rattle.machine.specs.Lanes.{laneOutcome}
 use borrow.Author.Needs.{needs}
 use Rattle.step.proofs.lanes.lane.Statement.{statement}
 use Rattle.step.proofs.lanes.lane.Tie as tie
@@ -53,35 +53,35 @@ multiply-add-requires-3 : tie.Need-multiply-add-requires-3
 multiply-add-requires-3 c κs = search needs
 
 returns : tie.Need-returns
-unfolding laneResult
+unfolding laneOutcome
 returns c = rw (c .before .enum-told .given .1) (c .add .ensures)
 
 returns-2 : tie.Need-returns-2
-unfolding laneResult
+unfolding laneOutcome
 returns-2 c = rw (c .before .enum-told2 .given .1) (c .multiply .ensures)
 
 returns-3 : tie.Need-returns-3
-unfolding laneResult
+unfolding laneOutcome
 returns-3 c = rw (c .before .enum-told3 .given .1) (c .subtract .ensures)
 
 returns-4 : tie.Need-returns-4
-unfolding laneResult
+unfolding laneOutcome
 returns-4 c = rw (c .before .enum-told4 .given .1) (c .divide .ensures)
 
 returns-5 : tie.Need-returns-5
-unfolding laneResult
+unfolding laneOutcome
 returns-5 c = rw (c .before .enum-told5 .given .1) (c .square-root .ensures)
 
 returns-6 : tie.Need-returns-6
-unfolding laneResult
+unfolding laneOutcome
 returns-6 c = rw (c .before .enum-told6 .given .1) (c .multiply-add .ensures)
 
 returns-7 : tie.Need-returns-7
-unfolding laneResult
+unfolding laneOutcome
 returns-7 c = rw (c .before .enum-told7 .given .1) (c .multiply-add2 .ensures)
 
 returns-8 : tie.Need-returns-8
-unfolding laneResult
+unfolding laneOutcome
 returns-8 c = rw (c .before .enum-told8 .given .1) (c .multiply-add3 .ensures)
 
 pub lane-spec : {M : Type 1} → statement M

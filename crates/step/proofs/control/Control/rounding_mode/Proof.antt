@@ -12,9 +12,6 @@ mode-requires c κs = search needs
 enum-known-rounding : tie.Need-enum-known-rounding
 enum-known-rounding c = search needs
 
-cast-result : tie.Need-cast-result
-cast-result c = search needs
-
 returns : tie.Need-returns
 returns c = rw (c .before .enum-told .given .1) (c .mode .ensures)
 
@@ -23,4 +20,4 @@ returns-2 c = search needs
 
 pub rounding-mode-spec : {M : Type 1} → statement M
 rounding-mode-spec =
-    tie.close (tie.spec enum-told mode-requires enum-known-rounding cast-result returns returns-2)
+    tie.close (tie.spec enum-told mode-requires enum-known-rounding returns returns-2)
