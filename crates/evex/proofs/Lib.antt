@@ -5,4 +5,3 @@ pub mod Order
 pub mod Answer
 pub mod Bounds
 pub mod After
-pub mod Examples

@@ -1,4 +1,4 @@
--- The starred rows, by computation.
+-- The bytes to try and the starred rows, by computation.
 -- Assumes nothing.
 use mathlib.Core.Path.{refl}
 use lib.Ieee.{size}
@@ -15,9 +15,33 @@ use Rattle.evex.specs.Decode.{noBytes, wrongFirstByte, fewerThanSixBytes, wrong
 use Rattle.lists.specs.Lists.{table}
 use Rattle.machine.specs.Memory.{addressFrom, on, bytesRead, needsOutside}
 use Rattle.machine.specs.Lanes.{registerHalves, memoryHalves, gathered, laneOutcome, results, raised, raisesUnmasked, controlAfter, newRegister, vectorsAfter}
-use Rattle.machine.specs.Step.{wrongVectorFile, highControlBit, outsideMemory, unmaskedException, beforeSeven, conditions, answerOf, stopped, completed, step}
+use Rattle.machine.specs.Step.{
+  wrongVectorFile,
+  highControlBit,
+  outsideMemory,
+  unmaskedException,
+  beforeSeven,
+  conditions,
+  answerOf,
+  stopped,
+  completed,
+  step,
+}
+use Rattle.machine.specs.Bytes.{DecodedBytes}
 use Rattle.machine.specs.Rows.{StarredRows}
 
+computed : DecodedBytes × StarredRows
+unfolding size units against whole rootFrom roundTo significant encode roundedHalf modeOfBits exactSum halfAdd halfMultiply
+    halfDivide halfRoot halfMultiplyAdd starred rows takesSib headOf listed first registerForm embeddedRounding lanes
+    rounding hasSib baseBits indexOf noBase baseOf displacementAt displacementSize fields.size N displacementOf second
+    instruction noBytes wrongFirstByte fewerThanSixBytes wrongFixedBits notInList reservedLength zeroingWithoutMask
+    extraSource bytesMissing longerThanFifteenBytes refusals decoded table addressFrom on bytesRead needsOutside
+    registerHalves memoryHalves gathered laneOutcome results raised raisesUnmasked controlAfter newRegister vectorsAfter
+    wrongVectorFile highControlBit outsideMemory unmaskedException beforeSeven conditions answerOf stopped completed step
+computed = ((refl, refl, refl, refl, refl), refl)
+
+pub decoded-bytes : DecodedBytes
+decoded-bytes = computed .0
+
 pub starred-rows : StarredRows
-unfolding size units against whole rootFrom roundTo significant encode roundedHalf modeOfBits exactSum halfAdd halfMultiply halfDivide halfRoot halfMultiplyAdd starred rows takesSib headOf listed first registerForm embeddedRounding lanes rounding hasSib baseBits indexOf noBase baseOf displacementAt displacementSize fields.size N displacementOf second instruction noBytes wrongFirstByte fewerThanSixBytes wrongFixedBits notInList reservedLength zeroingWithoutMask extraSource bytesMissing longerThanFifteenBytes refusals decoded table addressFrom on bytesRead needsOutside registerHalves memoryHalves gathered laneOutcome results raised raisesUnmasked controlAfter newRegister vectorsAfter wrongVectorFile highControlBit outsideMemory unmaskedException beforeSeven conditions answerOf stopped completed step
-starred-rows = refl
+starred-rows = computed .1

@@ -4,7 +4,15 @@ use Rattle.machine.specs.Theorems.{Theorems}
 use Rattle.machine.proofs.Answers.{answers, bytes-after}
 use Rattle.machine.proofs.OffLanes.{off-lanes}
 use Rattle.machine.proofs.TwoRuns.{two-runs}
-use Rattle.machine.proofs.Rows.{starred-rows}
+use Rattle.machine.proofs.Rows.{decoded-bytes, starred-rows}
 
 pub theorems : Theorems
-theorems = record { answers = answers; bytesAfter = bytes-after; offLanes = off-lanes; twoRuns = two-runs; starredRows = starred-rows }
+theorems =
+    record {
+      answers = answers;
+      bytesAfter = bytes-after;
+      offLanes = off-lanes;
+      twoRuns = two-runs;
+      decodedBytes = decoded-bytes;
+      starredRows = starred-rows;
+    }

@@ -6,5 +6,6 @@ pub mod Step
 pub mod Answers
 pub mod TwoRuns
 pub mod OffLanes
+pub mod Bytes
 pub mod Rows
 pub mod Theorems

@@ -2,6 +2,7 @@
 use Rattle.machine.specs.Answers.{Answers, BytesAfter}
 use Rattle.machine.specs.OffLanes.{OffLanes}
 use Rattle.machine.specs.TwoRuns.{TwoRuns}
+use Rattle.machine.specs.Bytes.{DecodedBytes}
 use Rattle.machine.specs.Rows.{StarredRows}
 
 pub record Theorems : Type 1 where
@@ -13,5 +14,7 @@ pub record Theorems : Type 1 where
   pub offLanes : OffLanes
   -- demand 3: two runs
   pub twoRuns : TwoRuns
-  -- the rows marked * of 'Lanes and bytes to try'
+  -- the bytes of 'Lanes and bytes to try'
+  pub decodedBytes : DecodedBytes
+  -- the rows marked * of it
   pub starredRows : StarredRows
