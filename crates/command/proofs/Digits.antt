@@ -19,7 +19,8 @@ unfolding decimalOf
 digits-most zero x = omega arith
 digits-most (suc n) x = go (ltb x 10) (digits-most n (x / 10))
   where
-    go : (t : Bool) → length (decimalOf n (x / 10)) ≤ n → length (cond t ((48 + x) ∷ []) (decimalOf n (x / 10) ++ ((48 + x % 10) ∷ []))) ≤ suc n
+    go : (t : Bool) → length (decimalOf n (x / 10)) ≤ n
+        → length (cond t ((48 + x) ∷ []) (decimalOf n (x / 10) ++ ((48 + x % 10) ∷ []))) ≤ suc n
     go true h = omega arith
     go false h = simp length-append (omega arith)
 
@@ -31,7 +32,8 @@ digits-enough (suc n) x h =
     let e : decimalOf (suc (suc n)) (x / 10) ≡ decimalOf (suc n) (x / 10) = digits-enough n (x / 10) (omega (arith, pow-suc 10 (suc n))) in
     ap (λ (l : List ℕ). cond (ltb x 10) ((48 + x) ∷ []) (l ++ ((48 + x % 10) ∷ []))) e
 
-digits-large : (n x : ℕ) → 10 ≤ x → x / 10 < 10 ^ suc n → decimalOf (suc (suc n)) x ≡ decimalOf (suc (suc n)) (x / 10) ++ ((48 + x % 10) ∷ [])
+digits-large : (n x : ℕ) → 10 ≤ x → x / 10 < 10 ^ suc n
+    → decimalOf (suc (suc n)) x ≡ decimalOf (suc (suc n)) (x / 10) ++ ((48 + x % 10) ∷ [])
 unfolding decimalOf
 digits-large n x h k = rw (le-ltb x 10 h) (ap (λ (l : List ℕ). l ++ ((48 + x % 10) ∷ [])) (sym (digits-enough n (x / 10) k)))
 
@@ -46,7 +48,8 @@ digits-below zero n x h = omega arith
 digits-below (suc m) zero x h = rw (lt-ltb x 10 h) (omega arith)
 digits-below (suc m) (suc n) x h = go (ltb x 10) (digits-below m n (x / 10) (omega (arith, pow-suc 10 (suc n))))
   where
-    go : (t : Bool) → length (decimalOf m (x / 10)) ≤ suc n → length (cond t ((48 + x) ∷ []) (decimalOf m (x / 10) ++ ((48 + x % 10) ∷ []))) ≤ suc (suc n)
+    go : (t : Bool) → length (decimalOf m (x / 10)) ≤ suc n
+        → length (cond t ((48 + x) ∷ []) (decimalOf m (x / 10) ++ ((48 + x % 10) ∷ []))) ≤ suc (suc n)
     go true h = omega arith
     go false h = simp length-append (omega arith)
 

@@ -1,4 +1,5 @@
--- The loop of the steps: what was printed so far, followed by the lines from the present offset on, is all that is to be printed. A step that is
+-- The loop of the steps: what was printed so far, followed by the lines from the present offset on, is all that is to be printed. A step
+-- that is
 -- done moves the offset by six or more and prints 16 bytes at most, so the place never runs ahead of 16/6 of the offset.
 -- Assumes nothing.
 use Prim.Native.Nat.{ℕ, _+_, _*_, _-_, _≤_, _<_}
@@ -32,8 +33,10 @@ pub starts : (memory code : List ℕ) (s : State) (out : List ℕ) → Going mem
 starts memory code s out =
     record { text = []; put = none out 0; rest = refl; place = omega arith; near = omega arith; size = refl; file = refl }
 
-module _ {memory code : List ℕ} {s₀ : State} {out₀ : List ℕ} {s : State} {offset at : ℕ} {out : List ℕ} (g : Going memory code s₀ out₀ s offset at out) where
-  pub ends : length code ≤ offset → {r : ℕ} {after : List ℕ} → Put (stopLine offset) out at r after → Put (lines memory code s₀ 0) out₀ 0 r after
+module _ {memory code : List ℕ} {s₀ : State} {out₀ : List ℕ} {s : State} {offset at : ℕ} {out : List ℕ}
+    (g : Going memory code s₀ out₀ s offset at out) where
+  pub ends : length code ≤ offset → {r : ℕ} {after : List ℕ} → Put (stopLine offset) out at r after
+      → Put (lines memory code s₀ 0) out₀ 0 r after
   ends h p = rw (← g .rest, at-end memory code s offset h) (followed (omega arith) (g .put) p)
 
   pub moved : {o : Stepped} → o ≡ step memory s (drop offset code) → Moves o
@@ -41,7 +44,8 @@ module _ {memory code : List ℕ} {s₀ : State} {out₀ : List ℕ} {s : State}
 
   module _ {o : Stepped} {next : ℕ} {after : List ℕ} (e : o ≡ step memory s (drop offset code)) (inside : offset < length code)
       (p : Put (stepLine offset (o .answer .number) (o .state .control)) out at next after) where
-    pub halts : (o .answer .number ≡ 0 → ⊥) → {r : ℕ} {last : List ℕ} → Put (stopLine offset) after next r last → Put (lines memory code s₀ 0) out₀ 0 r last
+    pub halts : (o .answer .number ≡ 0 → ⊥) → {r : ℕ} {last : List ℕ} → Put (stopLine offset) after next r last
+        → Put (lines memory code s₀ 0) out₀ 0 r last
     halts z q =
         rw (← g .rest, stops memory code s offset e inside z, ← append-assoc)
         (followed (omega arith) (followed (omega arith) (g .put) p) q)
@@ -51,7 +55,8 @@ module _ {memory code : List ℕ} {s₀ : State} {out₀ : List ℕ} {s : State}
       pub stop-fits : room ≤ length out₀ → next + 26 ≤ length after
       stop-fits h = omega (arith, step-most offset (o .answer .number) (o .state .control), p .place)
 
-      pub goes : o .answer .number ≡ 0 → length (o .state .vectors) ≡ length (s .vectors) → Going memory code s₀ out₀ (o .state) (offset + o .answer .length) next after
+      pub goes : o .answer .number ≡ 0 → length (o .state .vectors) ≡ length (s .vectors)
+          → Going memory code s₀ out₀ (o .state) (offset + o .answer .length) next after
       goes z f =
           record {
             text = g .text ++ stepLine offset (o .answer .number) (o .state .control);

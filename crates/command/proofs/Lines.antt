@@ -20,7 +20,8 @@ where-true false z h = refl
 
 module _ (memory code : List ℕ) where
   -- as many steps as there are bytes left are enough
-  enough : (n m : ℕ) (s : State) (at : ℕ) → length code ≤ at + n → length code ≤ at + m → linesFrom n memory code s at ≡ linesFrom m memory code s at
+  enough : (n m : ℕ) (s : State) (at : ℕ) → length code ≤ at + n → length code ≤ at + m
+      → linesFrom n memory code s at ≡ linesFrom m memory code s at
   unfolding linesFrom
   enough zero zero s at h k = refl
   enough zero (suc m) s at h k = let e : length code ≤ at = omega arith in rw (le-leb (length code) at e)

@@ -10,7 +10,8 @@ use lib.Dec.{eqb, leb}
 use lib.ListN.{length, drop, length-append, length-take}
 use Rattle.machine.specs.State.{State, Stepped}
 use Rattle.machine.specs.Step.{step, run}
-use Rattle.command.specs.Command.{stepLine, stopLine, linesFrom, badInput, codeOf, memoryOf, startOf, isLaidOut, isGood, printed, room}
+use Rattle.command.specs.Command.{stepLine, stopLine, linesFrom, badInput, codeOf, memoryOf, startOf, isLaidOut, isGood, printed}
+use Rattle.command.specs.Command.{room}
 use Rattle.command.specs.Runs.{codesAt, stepLines, Course, ended, stopped, done, Runs, Prints}
 use Rattle.command.proofs.Sizes.{moves}
 use Rattle.command.proofs.Lines.{stop-most, step-most, step-short}
@@ -43,17 +44,20 @@ module _ (memory code : List ℕ) where
     where
       go : (t d : Bool) → leb (length code) at ≡ t → eqb (at-offset s at .answer .number) 0 ≡ d
           → (at-offset s at .answer .number ≡ 0
-          → Runs memory code (at-offset s at .state) (at + at-offset s at .answer .length) (linesFrom n memory code (at-offset s at .state) (at + at-offset s at .answer .length)))
+          → Runs memory code (at-offset s at .state) (at + at-offset s at .answer .length)
+          (linesFrom n memory code (at-offset s at .state) (at + at-offset s at .answer .length)))
           → Runs memory code s at
           (cond t (stopLine at)
           (stepLine at (at-offset s at .answer .number) (at-offset s at .state .control)
           ++ cond d (linesFrom n memory code (at-offset s at .state) (at + at-offset s at .answer .length)) (stopLine at)))
       go true d e f later = record { offsets = []; end = at; course = ended (leb-true _ _ e); lines = refl }
-      go false false e f later = record { offsets = at ∷ []; end = at; course = stopped (leb-false _ _ e) (eqb-false _ 0 f); lines = rw append-nil }
+      go false false e f later =
+          record { offsets = at ∷ []; end = at; course = stopped (leb-false _ _ e) (eqb-false _ 0 f); lines = rw append-nil }
       go false true e f later = continued (leb-false _ _ e) (eqb-true _ 0 f) (later (eqb-true _ 0 f))
 
   -- 16 bytes for 6 of code, and the last two lines
-  lines-fit : (n : ℕ) (s : State) (at : ℕ) → length code ≤ 4096 → at ≤ 4107 → 3 * length (linesFrom n memory code s at) + 8 * at ≤ 3 * 77 + 8 * 4107
+  lines-fit : (n : ℕ) (s : State) (at : ℕ) → length code ≤ 4096 → at ≤ 4107
+      → 3 * length (linesFrom n memory code s at) + 8 * at ≤ 3 * 77 + 8 * 4107
   unfolding linesFrom
   lines-fit zero s at h k = omega (arith, stop-most at)
   lines-fit (suc n) s at h k =
@@ -62,7 +66,8 @@ module _ (memory code : List ℕ) where
     where
       go : (t d : Bool) → leb (length code) at ≡ t → eqb (at-offset s at .answer .number) 0 ≡ d
           → (at-offset s at .answer .number ≡ 0 → at < length code
-          → 3 * length (linesFrom n memory code (at-offset s at .state) (at + at-offset s at .answer .length)) + 8 * (at + at-offset s at .answer .length) ≤ 3 * 77 + 8 * 4107)
+          → 3 * length (linesFrom n memory code (at-offset s at .state) (at + at-offset s at .answer .length)) + 8 *
+          (at + at-offset s at .answer .length) ≤ 3 * 77 + 8 * 4107)
           → 3 * length (cond t (stopLine at)
           (stepLine at (at-offset s at .answer .number) (at-offset s at .state .control)
           ++ cond d (linesFrom n memory code (at-offset s at .state) (at + at-offset s at .answer .length)) (stopLine at))) + 8 * at
@@ -72,7 +77,8 @@ module _ (memory code : List ℕ) where
           simp length-append (omega (arith, stop-most at, step-most at (at-offset s at .answer .number) (at-offset s at .state .control)))
       go false true e f later =
           let z : at-offset s at .answer .number ≡ 0 = eqb-true _ 0 f in
-          let short : length (stepLine at (at-offset s at .answer .number) (at-offset s at .state .control)) ≤ 16 = step-short at _ _ (omega arith) z in
+          let short : length (stepLine at (at-offset s at .answer .number) (at-offset s at .state .control)) ≤ 16 =
+          step-short at _ _ (omega arith) z in
           simp length-append (omega (arith, later z (leb-false _ _ e), moves memory s (drop at code) z))
 
 runs : (input : List ℕ) → isGood input ≡ true → Runs (memoryOf input) (codeOf input) (startOf input) 0 (printed input)

@@ -17,7 +17,8 @@ none a n = record { place = sym (add-zero n); buffer = rw (add-zero, append-nil)
 pub one : (a : List ℕ) (n v : ℕ) → n < length a → Put (v ∷ []) a n (n + 1) (set a n v)
 one a n v h = record { place = refl; buffer = rw (add-one, append-snoc) (set-split a n v h) }
 
-pub followed : {t a : List ℕ} {n m : ℕ} {b u : List ℕ} {k : ℕ} {c : List ℕ} → n ≤ length a → Put t a n m b → Put u b m k c → Put (t ++ u) a n k c
+pub followed : {t a : List ℕ} {n m : ℕ} {b u : List ℕ} {k : ℕ} {c : List ℕ} → n ≤ length a → Put t a n m b → Put u b m k c
+    → Put (t ++ u) a n k c
 followed {t} {a} {n} {m} {b} {u} {k} {c} h w v =
     let long : length (take n a ++ t) ≡ m = simp length-append (omega (arith, length-take-le n a h)) in
     let front : take m b ≡ take n a ++ t = ap (take m) (w .buffer) ∙ take-at (take n a ++ t) (drop (n + length t) a) m long in
@@ -28,7 +29,9 @@ followed {t} {a} {n} {m} {b} {u} {k} {c} h w v =
     in
     record {
       place = simp length-append (omega arith);
-      buffer = v .buffer ∙ ap₂ (λ (x y : List ℕ). x ++ u ++ y) front rest ∙ ap (λ (x : List ℕ). x ++ drop (n + length (t ++ u)) a) (append-assoc (take n a) t u);
+      buffer =
+          v .buffer ∙ ap₂ (λ (x y : List ℕ). x ++ u ++ y) front rest ∙ ap (λ (x : List ℕ). x ++ drop (n + length (t ++ u)) a)
+          (append-assoc (take n a) t u);
     }
 
 pub take-next : (l : List ℕ) (k : ℕ) → k < length l → take (k + 1) l ≡ take k l ++ (getD l k 0 ∷ [])

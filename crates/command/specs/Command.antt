@@ -53,7 +53,8 @@ badInput = 98 ∷ 97 ∷ 100 ∷ 32 ∷ 105 ∷ 110 ∷ 112 ∷ 117 ∷ 116 ∷ 
 -- ---- "Each step is given the code from the present offset on and prints `offset number control`, the last .. as it stands after. It ends
 -- at the end of code or after a number other than 0 and prints `stop offset`."
 
--- from an offset on, with n steps at most; a step that is done moves the offset, so as many as there are bytes of code are enough (Runs.antt)
+-- from an offset on, with n steps at most; a step that is done moves the offset, so as many as there are bytes of code are enough
+-- (Runs.antt)
 unfoldable pub linesFrom : ℕ → List ℕ → List ℕ → State → ℕ → List ℕ
 linesFrom zero memory code s at = stopLine at
 linesFrom (suc n) memory code s at =

@@ -1,4 +1,5 @@
--- What is printed, said by the machine's own `run` and with no limit on the number of steps; and that it always fits. Proofs: proofs/Runs.antt.
+-- What is printed, said by the machine's own `run` and with no limit on the number of steps; and that it always fits. Proofs:
+-- proofs/Runs.antt.
 use Prim.Native.Nat.{ℕ, _+_, _≤_, _<_}
 use mathlib.Core.Path.{_≡_}
 use mathlib.Core.Logic.{_≢_}

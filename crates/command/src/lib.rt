@@ -33,7 +33,12 @@ fn put_step(
     at: usize,
 ) -> Turn
     requires { ⌜ (offset ≤ length (now code)) × (at + 51 ≤ length (now out)) ⌝ }
-    ensures { λ r. ⌜ steppedOf (r .answer) (now (vectors .exit)) (now (masks .exit)) (now (general .entry)) (now (control .exit)) (now (pointer .exit)) ≡ step (now (memory .entry)) (stateOf (now (vectors .entry)) (now (masks .entry)) (now (general .entry)) (now (control .entry)) (now (pointer .entry))) (drop offset (now (code .entry))) ⌝ }
+    ensures { λ r. ⌜
+        steppedOf (r .answer) (now (vectors .exit)) (now (masks .exit)) (now (general .entry)) (now (control .exit)) (now (pointer .exit))
+        ≡ step (now (memory .entry))
+        (stateOf (now (vectors .entry)) (now (masks .entry)) (now (general .entry)) (now (control .entry)) (now (pointer .entry)))
+        (drop offset (now (code .entry)))
+        ⌝ }
     ensures { λ r. ⌜ Put (stepLine offset (r .answer .number) (now (control .exit))) (now (out .entry)) at (r .next) (now (out .exit)) ⌝ }
 {
     let answer = step::step(
@@ -61,7 +66,13 @@ fn put_lines(
     out: &mut [u8],
 ) -> usize
     requires { ⌜ (length (now code) ≤ 4096) × (room ≤ length (now out)) ⌝ }
-    ensures { λ r. ⌜ Put (linesFrom (length (now (code .entry))) (now (memory .entry)) (now (code .entry)) (stateOf (now (vectors .entry)) (now (masks .entry)) (now (general .entry)) (now (control .entry)) (now (pointer .entry))) 0) (now (out .entry)) 0 r (now (out .exit)) ⌝ }
+    ensures { λ r. ⌜
+        Put
+        (linesFrom (length (now (code .entry))) (now (memory .entry)) (now (code .entry))
+        (stateOf (now (vectors .entry)) (now (masks .entry)) (now (general .entry)) (now (control .entry)) (now (pointer .entry)))
+        0)
+        (now (out .entry)) 0 r (now (out .exit))
+        ⌝ }
 {
     let mut offset = 0;
     let mut at = 0;

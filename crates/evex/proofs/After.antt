@@ -91,7 +91,15 @@ module _ (code rest : List ℕ) (whole : size (headOf code) ≤ length code) whe
   same-head : headOf other ≡ headOf code
   unfolding headOf
   same-head =
-      rw (same-byte 1 (omega (arith, six)), same-byte 2 (omega (arith, six)), same-byte 3 (omega (arith, six)), same-byte 4 (omega (arith, six)), same-byte 5 (omega (arith, six)), same-sib)
+      rw (
+        same-byte 1 (omega (arith, six)),
+        same-byte 2 (omega (arith, six)),
+        same-byte 3 (omega (arith, six)),
+        same-byte 4
+            (omega (arith, six)),
+        same-byte 5 (omega (arith, six)),
+        same-sib,
+      )
 
   abbrev at : ℕ
   at = displacementAt (headOf code)
@@ -106,10 +114,19 @@ module _ (code rest : List ℕ) (whole : size (headOf code) ≤ length code) whe
     where
       go : (one four : Bool) → eqb (displacementSize (headOf code)) 1 ≡ one → eqb (displacementSize (headOf code)) 4 ≡ four
           → displacementOf (headOf code) other ≡ displacementOf (headOf code) code
-      go true four e f = let s : displacementSize (headOf code) ≡ 1 = eqb-true _ _ e in rw (e, same-byte at (omega (arith, inside 0 1 s (omega arith))))
+      go true four e f =
+          let s : displacementSize (headOf code) ≡ 1 = eqb-true _ _ e in rw (e, same-byte at (omega (arith, inside 0 1 s (omega arith))))
       go false true e f =
           let s : displacementSize (headOf code) ≡ 4 = eqb-true _ _ f in
-          rw (e, f, same-byte at (omega (arith, inside 0 4 s (omega arith))), same-byte (at + 1) (inside 1 4 s (omega arith)), same-byte (at + 2) (inside 2 4 s (omega arith)), same-byte (at + 3) (inside 3 4 s (omega arith)))
+          rw (
+            e,
+            f,
+            same-byte at (omega (arith, inside 0 4 s (omega arith))),
+            same-byte (at + 1) (inside 1 4 s (omega arith)),
+            same-byte
+                (at + 2) (inside 2 4 s (omega arith)),
+            same-byte (at + 3) (inside 3 4 s (omega arith)),
+          )
       go false false e f = rw (e, f)
 
   same-fields : fields (headOf code) other (listed (headOf code)) ≡ fields (headOf code) code (listed (headOf code))
@@ -127,7 +144,16 @@ module _ (code rest : List ℕ) (whole : size (headOf code) ≤ length code) whe
       rw (same-byte 0 (omega (arith, six))) p1,
       (
         le-ltb (length other) 6 (omega (arith, six, long)),
-        (rw same-head p3, (rw same-head p4, (rw same-head p5, (rw same-head p6, (rw same-head p7, (rw same-head (le-ltb (length other) n long), (rw same-head p9, tt))))))),
+        (
+          rw same-head p3,
+          (
+            rw same-head p4,
+            (
+              rw same-head p5,
+              (rw same-head p6, (rw same-head p7, (rw same-head (le-ltb (length other) n long), (rw same-head p9, tt)))),
+            ),
+          ),
+        ),
       ),
     ),
   )
@@ -142,6 +168,7 @@ after code rest {i} e =
     let p : NoneHolds (refusals code) × (fields (headOf code) code (listed (headOf code)) ≡ Fields i) = passed (refusals code) _ e in
     let w : size (headOf code) ≤ length code = complete code (p .0) in
     ap (λ (m : ℕ). decoded (take m code ++ rest)) (fields-size (headOf code) code (listed (headOf code)) (p .1))
-    ∙ passes (refusals (other code rest w)) (fields (headOf (other code rest w)) (other code rest w) (listed (headOf (other code rest w)))) (none code rest w (p .0))
+    ∙ passes (refusals (other code rest w)) (fields (headOf (other code rest w)) (other code rest w) (listed (headOf (other code rest w))))
+    (none code rest w (p .0))
     ∙ rw (same-head code rest w) (same-fields code rest w)
     ∙ p .1

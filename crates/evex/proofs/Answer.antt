@@ -1,4 +1,5 @@
--- Decoding as a number: that beside the first condition that holds, whatever follows where none does. For who carries the order on, to 7 and 8.
+-- Decoding as a number: that beside the first condition that holds, whatever follows where none does. For who carries the order on, to 7
+-- and 8.
 -- Assumes nothing.
 use mathlib.Core.Path.{_≡_, refl, _∙_}
 use mathlib.Core.Bool.{Bool, true, false, cond}
@@ -33,7 +34,8 @@ first-answer n [] d = refl
 first-answer n (c ∷ cs) d = rw (first-answer n cs d) (picked n (c .0) (c .1) (firstOf (map (λ c. (c .0, Refused (c .1))) cs) d))
 
 -- what is not in the list is refused, so what follows does not matter
-past-list : (n m : ℕ) (code : List ℕ) → listed (headOf code) ≡ Nothing → firstOf (numbered (refusals code)) n ≡ firstOf (numbered (refusals code)) m
+past-list : (n m : ℕ) (code : List ℕ) → listed (headOf code) ≡ Nothing
+    → firstOf (numbered (refusals code)) n ≡ firstOf (numbered (refusals code)) m
 unfolding refusals notInList
 past-list n m code e = rw e
 
@@ -42,6 +44,7 @@ unfolding decoded
 answers n code = go (listed (headOf code)) refl ∙ first-answer n (refusals code) (fields (headOf code) code (listed (headOf code)))
   where
     go : (l : Listed) → listed (headOf code) ≡ l
-        → firstOf (numbered (refusals code)) n ≡ firstOf (numbered (refusals code)) (numberOr n (fields (headOf code) code (listed (headOf code))))
+        → firstOf (numbered (refusals code)) n ≡ firstOf (numbered (refusals code))
+        (numberOr n (fields (headOf code) code (listed (headOf code))))
     go (Found row) e = rw e
     go Nothing e = past-list n _ code e

@@ -12,7 +12,9 @@ use Rattle.lists.specs.Lists.{firstOf}
 use Rattle.lists.proofs.Tests.{either}
 use Rattle.evex.specs.Bits.{bits}
 use Rattle.evex.specs.List.{hasFirst}
-use Rattle.evex.specs.Fields.{headOf, b, lengthBits, modBits, rm, listed, destination, firstSource, secondSource, first, registerForm, embeddedRounding, lanes, hasSib, baseBits, indexNumber, indexOf, noBase, baseOf, displacementAt, displacementSize, size, displacementOf, second, instruction}
+use Rattle.evex.specs.Fields.{headOf, b, lengthBits, modBits, rm, listed, destination, firstSource, secondSource, first, registerForm}
+use Rattle.evex.specs.Fields.{embeddedRounding, lanes, hasSib, baseBits, indexNumber, indexOf, noBase, baseOf, displacementAt}
+use Rattle.evex.specs.Fields.{displacementSize, size, displacementOf, second, instruction}
 use Rattle.evex.specs.Decode.{refusals, fields, decoded}
 use Rattle.evex.specs.declared.head.Head.{Head}
 use Rattle.evex.specs.declared.list.Row.{Row}
@@ -135,7 +137,8 @@ first-of (c ∷ cs) d p = either DecodedIn (c .0) tt (first-of cs d p)
 
 decoded-in : (code : List ℕ) → DecodedIn (decoded code)
 unfolding decoded
-decoded-in code = first-of (refusals code) (fields (headOf code) code (listed (headOf code))) (fields-in (headOf code) code (listed (headOf code)))
+decoded-in code =
+    first-of (refusals code) (fields (headOf code) code (listed (headOf code))) (fields-in (headOf code) code (listed (headOf code)))
 
 pub bounds : (code : List ℕ) {i : Instruction} → decoded code ≡ Fields i → Bounds i
 bounds code e = subst DecodedIn e (decoded-in code)

@@ -9,7 +9,8 @@ use lib.ListN.{length, drop}
 use Rattle.lists.specs.Lists.{firstOf}
 use Rattle.evex.specs.Bits.{byte}
 use Rattle.evex.specs.Fields.{headOf, listed, size, displacementOf, instruction}
-use Rattle.evex.specs.Decode.{noBytes, wrongFirstByte, fewerThanSixBytes, wrongFixedBits, notInList, reservedLength, zeroingWithoutMask, extraSource, bytesMissing, longerThanFifteenBytes, refusals, fields, decoded}
+use Rattle.evex.specs.Decode.{noBytes, wrongFirstByte, fewerThanSixBytes, wrongFixedBits, notInList, reservedLength}
+use Rattle.evex.specs.Decode.{zeroingWithoutMask, extraSource, bytesMissing, longerThanFifteenBytes, refusals, fields, decoded}
 use Rattle.evex.specs.declared.head.Head.{Head}
 use Rattle.evex.specs.declared.list.Row.{Row}
 use Rattle.evex.specs.declared.list.Listed.the-variants.{Found, Nothing}
@@ -55,7 +56,8 @@ module _ (code : List ℕ) where
 
   -- what is left of the order then
   rest : Begun code
-      → firstOf (map (λ c. (c .0, Refused (c .1))) (drop 3 (refusals code))) (fields (headOf code) code (listed (headOf code))) ≡ decoded code
+      → firstOf (map (λ c. (c .0, Refused (c .1))) (drop 3 (refusals code))) (fields (headOf code) code (listed (headOf code))) ≡ decoded
+      code
   unfolding decoded refusals noBytes wrongFirstByte fewerThanSixBytes
   rest g = rw (ne-eqb (length code) 0 (g .some), g .evex, le-ltb (length code) 6 (g .six))
 

@@ -27,7 +27,9 @@ module _ (w : Width) (x : ℕ) (upper : 2 ^ hbits w ≤ x) (small : x < 2 ^ bits
   low = omega (arith, pow-bits w)
 
   signed-is : negsuc (2 ^ bits w - 1 - x) ≡ signed (bits w) x
-  signed-is = rw (half w, le-ltb x (2 ^ hbits w) upper, ← suc-ones (bits w), lt-ltb x (suc (2 ^ bits w - 1)) (omega arith)) (ap negsuc (omega arith))
+  signed-is =
+      rw (half w, le-ltb x (2 ^ hbits w) upper, ← suc-ones (bits w), lt-ltb x (suc (2 ^ bits w - 1)) (omega arith))
+      (ap negsuc (omega arith))
 
   pub below-fits : SFits w (negsuc 0 -ℤ toZ w (2 ^ bits w - 1 - x))
   below-fits = rw (toZ-pos w low, minus-one) (record { sfits = low })

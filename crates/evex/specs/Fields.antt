@@ -1,4 +1,5 @@
--- Document 01, 'Fields of an instruction' (below: 01, Fields), in its order. Of bytes that are refused the fields do not count (Decode.antt).
+-- Document 01, 'Fields of an instruction' (below: 01, Fields), in its order. Of bytes that are refused the fields do not count
+-- (Decode.antt).
 -- What 01 leaves to Intel's SDM (volume 2, 2.1.5): the sizes by mod, the scale, and that a displacement has its lowest byte first.
 use Prim.Native.Nat.{ℕ, _+_, _*_}
 use mathlib.Core.Bool.{Bool, cond, not, _&&_, _||_}
@@ -109,7 +110,8 @@ module _ (h : Head) where
   unfoldable pub first : Row → Source
   first row = cond (hasFirst row) (source.Register firstSource) source.None
 
-  -- 01, Fields: length bits 00, 01, 10 mean 8, 16, 32 lanes. In register form with b set there are 32 lanes, the length bits are the rounding mode.
+  -- 01, Fields: length bits 00, 01, 10 mean 8, 16, 32 lanes. In register form with b set there are 32 lanes, the length bits are the
+  -- rounding mode.
   unfoldable pub registerForm : Bool
   registerForm = eqb modBits 3
 

@@ -16,7 +16,8 @@ none = 0
 abbrev p66 : ℕ
 p66 = 1
 
--- 01, What the machine carries: the table. Prefix, map, W, opcode; the operation; whether there is a first source (VSQRTPH has one source, r/m).
+-- 01, What the machine carries: the table. Prefix, map, W, opcode; the operation; whether there is a first source (VSQRTPH has one source,
+-- r/m).
 unfoldable pub rows : List Row
 rows =
     (none, 5, 0, 0x58, Add, true)

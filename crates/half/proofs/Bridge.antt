@@ -3,7 +3,8 @@ use Prim.Native.Nat.{ℕ, zero, suc, _+_, _-_, _*_, _/_, _%_, _^_, _≤_, _<_, c
 use mathlib.Core.Bool.{Bool, true, false, not, _&&_, _||_, cond}
 use mathlib.Core.Path.{_≡_, refl, sym, ap, _∙_}
 use native.Mathlib.Omega.{arith}
-use native.Mathlib.Nat.{mul-assoc, mul-comm, mul-pos, mul-le-mul, mul-le-mul-right, mul-lt-mul-of-pos-right, le-trans, le-of-eq, lt-of-lt-of-le, lt-of-le-of-lt, not-le-of-lt, mul-one, one-mul, zero-mul, mod-lt, pow-succ'}
+use native.Mathlib.Nat.{mul-assoc, mul-comm, mul-pos, mul-le-mul, mul-le-mul-right, mul-lt-mul-of-pos-right, le-trans, le-of-eq}
+use native.Mathlib.Nat.{lt-of-lt-of-le, lt-of-le-of-lt, not-le-of-lt, mul-one, one-mul, zero-mul, mod-lt, pow-succ'}
 use lib.Bits.{bitOr}
 use lib.Dec.{leb, ltb, eqb, isLe, isEq, lit<}
 use lib.Pow.{pow-pos, pow-mono, pow-add, shl-shr, split}
@@ -18,14 +19,17 @@ use Rattle.half.specs.declared.Mode.{Mode}
 use Rattle.half.specs.declared.Outcome.{Outcome}
 use Rattle.half.proofs.Compare.{and-false, cmp-scale, same-le, same-lt, same-ge, same-below}
 use Rattle.half.proofs.Places.{pow-join, size-is, size-shift, size-large, place-two, place-ge, place-lt, place-cut}
-use Rattle.half.proofs.Cuts.{left, right, weight, against-is, against-scale, left-scale, weight-pos, right-mono, whole-spec, whole-is, whole-le, whole-ge, whole-scale, roundTo-scale, roundTo-same, roundTo-ge, roundTo-le, roundTo-exact, scale-lt, lt-scale, ge-scale}
+use Rattle.half.proofs.Cuts.{left, right, weight, against-is, against-scale, left-scale, weight-pos, right-mono, whole-spec}
+use Rattle.half.proofs.Cuts.{whole-is, whole-le, whole-ge, whole-scale, roundTo-scale, roundTo-same, roundTo-ge, roundTo-le}
+use Rattle.half.proofs.Cuts.{roundTo-exact, scale-lt, lt-scale, ge-scale}
 
 -- ---- the fields of q * 2 ^ k
 pub encode-is : (k q : ℕ) → q ≤ 2048 → (q < 1024 → k ≡ 0) → encode (q * 2 ^ k) ≡ k * 1024 + q
 unfolding encode
 encode-is k q hi lo = go (ltb q 1024) (ltb q 2048) refl refl
   where
-    go : (a b : Bool) → ltb q 1024 ≡ a → ltb q 2048 ≡ b → (size (q * 2 ^ k) - 11) * 1024 + q * 2 ^ k / 2 ^ (size (q * 2 ^ k) - 11) ≡ k * 1024 + q
+    go : (a b : Bool) → ltb q 1024 ≡ a → ltb q 2048 ≡ b
+        → (size (q * 2 ^ k) - 11) * 1024 + q * 2 ^ k / 2 ^ (size (q * 2 ^ k) - 11) ≡ k * 1024 + q
     go true b e f =
         let l : q < 1024 = ltb-true _ _ e in
         let z : k ≡ 0 = lo l in
@@ -60,18 +64,23 @@ module _ (x : Magnitude) (hd : 0 < denominator x) where
       let f : w / 2 ^ j * 2 ^ j + w % 2 ^ j ≡ w = split w j in
       let g : w % 2 ^ j < 2 ^ j = mod-lt w (pow-pos j) in
       whole-is x 1 (2 ^ l) hd (omega arith) (w / 2 ^ j)
-      (ge-scale x (w / 2 ^ j * 1) (2 ^ l) (2 ^ j) (pow-pos j) (rw (← e) (le-trans (right-mono x {a = w / 2 ^ j * 1 * 2 ^ j} {c = w * 1} (omega arith)) (s .0))))
-      (lt-scale x ((w / 2 ^ j + 1) * 1) (2 ^ l) (2 ^ j) (rw (← e) (lt-of-lt-of-le (s .1) (right-mono x {a = (w + 1) * 1} {c = (w / 2 ^ j + 1) * 1 * 2 ^ j} (omega arith)))))
+      (ge-scale x (w / 2 ^ j * 1) (2 ^ l) (2 ^ j) (pow-pos j)
+      (rw (← e) (le-trans (right-mono x {a = w / 2 ^ j * 1 * 2 ^ j} {c = w * 1} (omega arith)) (s .0))))
+      (lt-scale x ((w / 2 ^ j + 1) * 1) (2 ^ l) (2 ^ j)
+      (rw (← e) (lt-of-lt-of-le (s .1) (right-mono x {a = (w + 1) * 1} {c = (w / 2 ^ j + 1) * 1 * 2 ^ j} (omega arith)))))
 
   -- 11 significant bits are 11 significant bits
-  pub significant-finer : (mode : Mode) (neg : Bool) (l j : ℕ) → 2 ^ 10 ≤ whole x 1 (2 ^ l) → significant (l + j) mode neg x ≡ significant l mode neg x * 2 ^ j
+  pub significant-finer : (mode : Mode) (neg : Bool) (l j : ℕ) → 2 ^ 10 ≤ whole x 1 (2 ^ l)
+      → significant (l + j) mode neg x ≡ significant l mode neg x * 2 ^ j
   unfolding significant
   significant-finer mode neg l j h =
       let s : ℕ = size (whole x 1 (2 ^ l)) - 11 in
       let a : 11 ≤ size (whole x 1 (2 ^ l)) = size-large (whole x 1 (2 ^ l)) 10 h in
-      let b : size (whole x 1 (2 ^ l)) ≡ size (whole x 1 (2 ^ (l + j))) - j = ap size (whole-finer l j) ∙ size-shift (whole x 1 (2 ^ (l + j))) j in
+      let b : size (whole x 1 (2 ^ l)) ≡ size (whole x 1 (2 ^ (l + j))) - j =
+      ap size (whole-finer l j) ∙ size-shift (whole x 1 (2 ^ (l + j))) j in
       let c : size (whole x 1 (2 ^ (l + j))) - 11 ≡ size (whole x 1 (2 ^ l)) - 11 + j = omega arith in
-      let d : roundTo mode neg x (2 ^ (s + j)) (2 ^ (l + j)) ≡ roundTo mode neg x (2 ^ s) (2 ^ l) = rw (pow-add 2 s j, pow-add 2 l j) (roundTo-scale mode neg x (2 ^ s) (2 ^ l) (2 ^ j) hd (pow-pos s) (pow-pos j)) in
+      let d : roundTo mode neg x (2 ^ (s + j)) (2 ^ (l + j)) ≡ roundTo mode neg x (2 ^ s) (2 ^ l) =
+      rw (pow-add 2 s j, pow-add 2 l j) (roundTo-scale mode neg x (2 ^ s) (2 ^ l) (2 ^ j) hd (pow-pos s) (pow-pos j)) in
       ap (λ (y : ℕ). roundTo mode neg x (2 ^ y) (2 ^ (l + j)) * 2 ^ y) c
       ∙ ap (λ (y : ℕ). y * 2 ^ (s + j)) d
       ∙ ap (λ (y : ℕ). roundTo mode neg x (2 ^ s) (2 ^ l) * y) (pow-add 2 s j)
@@ -90,8 +99,10 @@ module _ (x : Magnitude) (hd : 0 < denominator x) where
       let m : whole x (2 ^ s) (2 ^ l) ≤ 2 ^ (n - s) - 1 =
       whole-le x (2 ^ s) (2 ^ l) hd (pow-pos s) (2 ^ (n - s) - 1)
       (lt-of-lt-of-le (whole-spec x 1 (2 ^ l) hd (omega arith) .1) (right-mono x {a = (w + 1) * 1} {c = (2 ^ (n - s) - 1 + 1) * 2 ^ s}
-      (le-trans (let z : (w + 1) * 1 ≤ 2 ^ n = omega (arith, size-lt w) in z) (le-of-eq (sym g ∙ ap (λ (y : ℕ). y * 2 ^ s) (let y : 2 ^ (n - s) ≡ 2 ^ (n - s) - 1 + 1 = omega arith in y)))))) in omega arith) in
-      le-trans (mul-le-mul-right (2 ^ s) (le-trans (roundTo-le mode neg x (2 ^ s) (2 ^ l)) b)) (le-trans (le-of-eq g) (pow-mono (size-le w e h)))
+      (le-trans (let z : (w + 1) * 1 ≤ 2 ^ n = omega (arith, size-lt w) in z)
+      (le-of-eq (sym g ∙ ap (λ (y : ℕ). y * 2 ^ s) (let y : 2 ^ (n - s) ≡ 2 ^ (n - s) - 1 + 1 = omega arith in y)))))) in omega arith) in
+      le-trans (mul-le-mul-right (2 ^ s) (le-trans (roundTo-le mode neg x (2 ^ s) (2 ^ l)) b))
+      (le-trans (le-of-eq g) (pow-mono (size-le w e h)))
 
   pub significant-pos : (mode : Mode) (neg : Bool) (l : ℕ) → 0 < whole x 1 (2 ^ l) → 0 < significant l mode neg x
   unfolding significant
@@ -100,7 +111,9 @@ module _ (x : Magnitude) (hd : 0 < denominator x) where
       let s : ℕ = size w - 11 in
       let a : 1 ≤ size w = size-large w 0 h in
       let b : 2 ^ s ≤ w = size-reaches w s (omega arith) in
-      let c : 1 ≤ whole x (2 ^ s) (2 ^ l) = whole-ge x (2 ^ s) (2 ^ l) hd (pow-pos s) 1 (le-trans (right-mono x {a = 1 * 2 ^ s} {c = w * 1} (omega arith)) (whole-spec x 1 (2 ^ l) hd (omega arith) .0)) in
+      let c : 1 ≤ whole x (2 ^ s) (2 ^ l) =
+      whole-ge x (2 ^ s) (2 ^ l) hd (pow-pos s) 1
+      (le-trans (right-mono x {a = 1 * 2 ^ s} {c = w * 1} (omega arith)) (whole-spec x 1 (2 ^ l) hd (omega arith) .0)) in
       mul-pos {m = roundTo mode neg x (2 ^ s) (2 ^ l)} {n = 2 ^ s} (le-trans c (roundTo-ge mode neg x (2 ^ s) (2 ^ l))) (pow-pos s)
 
 -- ---- zero
@@ -111,19 +124,22 @@ pub right-zero : (x : Magnitude) → right x 0 ≡ 0
 right-zero (ratio n d) = omega arith
 right-zero (rootOf n d) = omega arith
 
-pub significant-zero : (x : Magnitude) → 0 < denominator x → (mode : Mode) (neg : Bool) (l : ℕ) → left x 1 ≡ 0 → significant l mode neg x ≡ 0
+pub significant-zero : (x : Magnitude) → 0 < denominator x → (mode : Mode) (neg : Bool) (l : ℕ) → left x 1 ≡ 0
+    → significant l mode neg x ≡ 0
 unfolding significant
 significant-zero x hd mode neg l h =
     let s : ℕ = size (whole x 1 (2 ^ l)) - 11 in
     let z : left x (2 ^ l) ≡ 0 = left-one x (2 ^ l) ∙ ap (λ (y : ℕ). y * weight x (2 ^ l)) h ∙ zero-mul (weight x (2 ^ l)) in
-    ap (λ (y : ℕ). y * 2 ^ s) (roundTo-exact mode neg x (2 ^ s) (2 ^ l) hd (pow-pos s) 0 (ap (λ (y : ℕ). right x y) (zero-mul (2 ^ s)) ∙ right-zero x ∙ sym z)) ∙ zero-mul (2 ^ s)
+    ap (λ (y : ℕ). y * 2 ^ s) (roundTo-exact mode neg x (2 ^ s) (2 ^ l) hd (pow-pos s) 0
+    (ap (λ (y : ℕ). right x y) (zero-mul (2 ^ s)) ∙ right-zero x ∙ sym z)) ∙ zero-mul (2 ^ s)
 
 -- the fine unit is fine enough
 pub fine-enough : (x : Magnitude) → 0 < left x 1 → right x 1 ≤ left x (2 ^ (24 + size (denominator x)))
 fine-enough (ratio n d) h =
     let a : d < 2 ^ size d = size-lt d in
     let b : 2 ^ size d ≤ 2 ^ (24 + size d) = pow-mono (omega arith) in
-    let c : 1 * 2 ^ (24 + size d) ≤ n * 2 ^ (24 + size d) = mul-le-mul-right {m = 1} {n = n} (2 ^ (24 + size d)) (omega arith) in omega arith
+    let c : 1 * 2 ^ (24 + size d) ≤ n * 2 ^ (24 + size d) =
+    mul-le-mul-right {m = 1} {n = n} (2 ^ (24 + size d)) (omega arith) in omega arith
 fine-enough (rootOf n d) h =
     let a : d < 2 ^ size d = size-lt d in
     let P : ℕ = 2 ^ (24 + size d) in
@@ -176,11 +192,13 @@ module _ (x : Magnitude) (t : ℕ) (hd : 0 < denominator x) (p : Placed x t) whe
 
   -- x and the place z of its half steps h compare alike with each half step
   at-steps : (h c : ℕ) → 0 < h → against x (c * h) (2 ^ 26) ≡ compare (place t (2 * h)) (2 * c)
-  at-steps h c hh = p (c * h) ∙ ap (λ (n : ℕ). compare t n) (let e : 2 * (c * h) ≡ c * (2 * h) = omega arith in e) ∙ place-cut t (2 * h) c (omega arith)
+  at-steps h c hh =
+      p (c * h) ∙ ap (λ (n : ℕ). compare t n) (let e : 2 * (c * h) ≡ c * (2 * h) = omega arith in e) ∙ place-cut t (2 * h) c (omega arith)
 
   pub round-steps : (mode : Mode) (neg : Bool) (h : ℕ) → 0 < h → roundTo mode neg x (2 * h) (2 ^ 26) ≡ steps mode neg (place t (2 * h))
   unfolding against
-  round-steps mode neg h hh = roundTo-same x (ratio (place t (2 * h)) 4) hd (omega arith) (2 * h) (2 ^ 26) 1 1 (omega arith) (omega arith) same mode neg
+  round-steps mode neg h hh =
+      roundTo-same x (ratio (place t (2 * h)) 4) hd (omega arith) (2 * h) (2 ^ 26) 1 1 (omega arith) (omega arith) same mode neg
     where
       same : (n : ℕ) → against x (n * (2 * h)) (2 ^ 27) ≡ compare (place t (2 * h) * 2) (n * 1 * 4)
       same n =
@@ -200,8 +218,12 @@ over-test S q lo hi = go (leb S 28) (leb 30 S) refl refl
     large h = mul-le-mul {n₁ = 1024} {m₁ = 2 ^ 70} lo (pow-mono {i = 70} {j = S + 40} (omega arith))
 
     middle : (b : Bool) → leb 2048 q ≡ b → S ≡ 29 → leb (2 ^ 80) (q * 2 ^ (S + 40)) ≡ leb 31744 (S * 1024 + q)
-    middle true e s = let g : 2048 ≤ q = leb-true _ _ e in rw s (le-leb (2 ^ 80) (q * 2 ^ 69) (omega arith) ∙ sym (le-leb 31744 (29 * 1024 + q) (omega arith)))
-    middle false e s = let g : q < 2048 = leb-false _ _ e in rw s (lt-leb (2 ^ 80) (q * 2 ^ 69) (omega arith) ∙ sym (lt-leb 31744 (29 * 1024 + q) (omega arith)))
+    middle true e s =
+        let g : 2048 ≤ q = leb-true _ _ e in rw s
+        (le-leb (2 ^ 80) (q * 2 ^ 69) (omega arith) ∙ sym (le-leb 31744 (29 * 1024 + q) (omega arith)))
+    middle false e s =
+        let g : q < 2048 = leb-false _ _ e in rw s
+        (lt-leb (2 ^ 80) (q * 2 ^ 69) (omega arith) ∙ sym (lt-leb 31744 (29 * 1024 + q) (omega arith)))
 
     go : (a b : Bool) → leb S 28 ≡ a → leb 30 S ≡ b → leb (2 ^ 80) (q * 2 ^ (S + 40)) ≡ leb 31744 (S * 1024 + q)
     go true b e f = let h : S ≤ 28 = leb-true _ _ e in lt-leb _ _ (small h) ∙ sym (lt-leb 31744 (S * 1024 + q) (omega arith))
@@ -221,10 +243,14 @@ coarse mode unmaskedUE neg t =
 -- ---- the bridge
 module _ (x : Magnitude) (t : ℕ) (hd : 0 < denominator x) (p : Placed x t) (mode : Mode) (neg : Bool) where
   whole24 : whole x 1 (2 ^ 24) ≡ t / 8
-  whole24 = sym (whole-scale x 1 (2 ^ 24) 4 hd (omega arith) (omega arith)) ∙ whole-is x 4 (2 ^ 26) hd (omega arith) (t / 8) (at-least x t hd p (t / 8 * 4) (omega arith)) (below x t hd p ((t / 8 + 1) * 4) (omega arith))
+  whole24 =
+      sym (whole-scale x 1 (2 ^ 24) 4 hd (omega arith) (omega arith)) ∙ whole-is x 4 (2 ^ 26) hd (omega arith) (t / 8)
+      (at-least x t hd p (t / 8 * 4) (omega arith)) (below x t hd p ((t / 8 + 1) * 4) (omega arith))
 
   whole25 : whole x 1 (2 ^ 25) ≡ t / 4
-  whole25 = sym (whole-scale x 1 (2 ^ 25) 2 hd (omega arith) (omega arith)) ∙ whole-is x 2 (2 ^ 26) hd (omega arith) (t / 4) (at-least x t hd p (t / 4 * 2) (omega arith)) (below x t hd p ((t / 4 + 1) * 2) (omega arith))
+  whole25 =
+      sym (whole-scale x 1 (2 ^ 25) 2 hd (omega arith) (omega arith)) ∙ whole-is x 2 (2 ^ 26) hd (omega arith) (t / 4)
+      (at-least x t hd p (t / 4 * 2) (omega arith)) (below x t hd p ((t / 4 + 1) * 2) (omega arith))
 
   round-at : (k : ℕ) → roundTo mode neg x (2 ^ k) (2 ^ 24) ≡ steps mode neg (place t (2 ^ (k + 2)))
   round-at k =
@@ -238,23 +264,30 @@ module _ (x : Magnitude) (t : ℕ) (hd : 0 < denominator x) (p : Placed x t) (mo
   sig24 : significant 24 mode neg x ≡ steps mode neg (place t (2 ^ (size t - 14 + 2))) * 2 ^ (size t - 14)
   unfolding significant
   sig24 =
-      let e : size (whole x 1 (2 ^ 24)) - 11 ≡ size t - 14 = ap (λ (y : ℕ). size y - 11) whole24 ∙ (let s : size (t / 2 ^ 3) ≡ size t - 3 = size-shift t 3 in let r : size (t / 8) - 11 ≡ size t - 14 = omega arith in r) in
+      let e : size (whole x 1 (2 ^ 24)) - 11 ≡ size t - 14 =
+      ap (λ (y : ℕ). size y - 11) whole24 ∙ (let s : size (t / 2 ^ 3) ≡ size t - 3 = size-shift t 3 in let r : size (t / 8) - 11 ≡ size t -
+      14 = omega arith in r) in
       ap (λ (y : ℕ). roundTo mode neg x (2 ^ y) (2 ^ 24) * 2 ^ y) e ∙ ap (λ (y : ℕ). y * 2 ^ (size t - 14)) (round-at (size t - 14))
 
-  inexact-at : (k : ℕ) → not (isEq (against x (steps mode neg (place t (2 ^ (k + 2))) * 2 ^ k) (2 ^ 24))) ≡ not (eqb (place t (2 ^ (k + 2)) % 4) 0)
+  inexact-at : (k : ℕ)
+      → not (isEq (against x (steps mode neg (place t (2 ^ (k + 2))) * 2 ^ k) (2 ^ 24))) ≡ not (eqb (place t (2 ^ (k + 2)) % 4) 0)
   inexact-at k =
       let f : 2 * 2 ^ (k + 1) ≡ 2 ^ (k + 2) = omega (arith, pow-add 2 k 1, pow-add 2 k 2) in
       let q : ℕ = steps mode neg (place t (2 ^ (k + 2))) in
-      let g : q * 2 ^ k * 4 ≡ 2 * q * 2 ^ (k + 1) = ap (λ (y : ℕ). y * 4) (mul-comm q (2 ^ k)) ∙ (let e : 2 ^ k * q * 4 ≡ 2 * q * (2 ^ k * 2 ^ 1) = omega arith in e) ∙ ap (λ (y : ℕ). 2 * q * y) (sym (pow-add 2 k 1)) in
+      let g : q * 2 ^ k * 4 ≡ 2 * q * 2 ^ (k + 1) =
+      ap (λ (y : ℕ). y * 4) (mul-comm q (2 ^ k)) ∙ (let e : 2 ^ k * q * 4 ≡ 2 * q * (2 ^ k * 2 ^ 1) = omega arith in e)
+      ∙ ap (λ (y : ℕ). 2 * q * y) (sym (pow-add 2 k 1)) in
       let a : against x (q * 2 ^ k) (2 ^ 24) ≡ compare (place t (2 ^ (k + 2))) (2 * (2 * q)) =
-      sym (against-scale x (q * 2 ^ k) (2 ^ 24) 4 (omega arith)) ∙ ap (λ (y : ℕ). against x y (2 ^ 26)) g ∙ at-steps x t hd p (2 ^ (k + 1)) (2 * q) (pow-pos (k + 1)) ∙ ap (λ (y : ℕ). compare (place t y) (2 * (2 * q))) f in
+      sym (against-scale x (q * 2 ^ k) (2 ^ 24) 4 (omega arith)) ∙ ap (λ (y : ℕ). against x y (2 ^ 26)) g ∙ at-steps x t hd p (2 ^ (k + 1))
+      (2 * q) (pow-pos (k + 1)) ∙ ap (λ (y : ℕ). compare (place t y) (2 * (2 * q))) f in
       ap (λ (o : Ordering). not (isEq o)) a ∙ steps-left mode neg (place t (2 ^ (k + 2)))
 
   -- the significand that is kept
   kept-le : steps mode neg (place t (2 ^ (size t - 14 + 2))) ≤ 2048
   kept-le =
       let k : ℕ = size t - 14 in
-      let h : t < 4096 * 2 ^ (k + 2) = lt-of-lt-of-le (size-lt t) (le-trans (pow-mono {i = size t} {j = 12 + (k + 2)} (omega arith)) (le-of-eq (pow-add 2 12 (k + 2)))) in
+      let h : t < 4096 * 2 ^ (k + 2) = lt-of-lt-of-le (size-lt t)
+      (le-trans (pow-mono {i = size t} {j = 12 + (k + 2)} (omega arith)) (le-of-eq (pow-add 2 12 (k + 2)))) in
       omega (arith, place-lt t (2 ^ (k + 2)) 4096 (pow-pos (k + 2)) h, steps-le mode neg (place t (2 ^ (k + 2))))
 
   kept-ge : 2 ^ 13 ≤ t → 1024 ≤ steps mode neg (place t (2 ^ (size t - 14 + 2)))
@@ -262,7 +295,12 @@ module _ (x : Magnitude) (t : ℕ) (hd : 0 < denominator x) (p : Placed x t) (mo
       let k : ℕ = size t - 14 in
       let s : 14 ≤ size t = size-large t 13 h in
       let r : 2 ^ (11 + (k + 2)) ≤ t = size-reaches t (11 + (k + 2)) (omega arith) in
-      omega (arith, place-ge t (2 ^ (k + 2)) 2048 (pow-pos (k + 2)) (le-trans (le-of-eq (sym (pow-add 2 11 (k + 2)))) r), steps-ge mode neg (place t (2 ^ (k + 2))))
+      omega (
+        arith,
+        place-ge t (2 ^ (k + 2)) 2048 (pow-pos (k + 2)) (le-trans (le-of-eq (sym (pow-add 2 11 (k + 2)))) r),
+        steps-ge mode neg
+            (place t (2 ^ (k + 2))),
+      )
 
   kept-small : steps mode neg (place t (2 ^ (size t - 14 + 2))) < 1024 → size t - 14 ≡ 0
   kept-small h = go (leb (2 ^ 13) t) refl
@@ -277,7 +315,8 @@ module _ (x : Magnitude) (t : ℕ) (hd : 0 < denominator x) (p : Placed x t) (mo
   at25 : t < 2 ^ 13 → significant 25 mode neg x ≡ steps mode neg t
   unfolding significant
   at25 hi =
-      let s : size (whole x 1 (2 ^ 25)) - 11 ≡ 0 = let w : size (whole x 1 (2 ^ 25)) ≤ 11 = size-le (whole x 1 (2 ^ 25)) 11 (rw whole25 (omega arith)) in omega arith in
+      let s : size (whole x 1 (2 ^ 25)) - 11 ≡ 0 =
+      let w : size (whole x 1 (2 ^ 25)) ≤ 11 = size-le (whole x 1 (2 ^ 25)) 11 (rw whole25 (omega arith)) in omega arith in
       ap (λ (y : ℕ). roundTo mode neg x (2 ^ y) (2 ^ 25) * 2 ^ y) s
       ∙ mul-one (roundTo mode neg x 1 (2 ^ 25))
       ∙ sym (roundTo-scale mode neg x 1 (2 ^ 25) 2 hd (omega arith) (omega arith))
@@ -292,7 +331,8 @@ module _ (x : Magnitude) (t : ℕ) (hd : 0 < denominator x) (p : Placed x t) (mo
     where
       go : (n : ℕ) → n * weight x (2 ^ 26) ≤ 0 → n ≡ 0
       go zero h = refl
-      go (suc n) h = absurd (not-le-of-lt (mul-pos {m = suc n} {n = weight x (2 ^ 26)} (omega arith) (weight-pos x (2 ^ 26) (omega arith))) h)
+      go (suc n) h =
+          absurd (not-le-of-lt (mul-pos {m = suc n} {n = weight x (2 ^ 26)} (omega arith) (weight-pos x (2 ^ 26) (omega arith))) h)
 
   pos-left : 0 < t → 0 < left x 1
   pos-left h =
@@ -314,7 +354,8 @@ module _ (x : Magnitude) (t : ℕ) (hd : 0 < denominator x) (p : Placed x t) (mo
         let a : left x (2 ^ 26) < right x (2 * 2 ^ e) = below x t hd p (2 * 2 ^ e) h in
         let b : left x (2 ^ 26 * 2 ^ j) < right x (2 * 2 ^ e * 2 ^ j) = scale-lt x (2 * 2 ^ e) (2 ^ 26) (2 ^ j) (pow-pos j) a in
         let f : 2 ^ 26 * 2 ^ j ≡ 2 ^ (25 + j) * 2 = omega (arith, pow-add 2 25 j) in
-        let g : 2 * 2 ^ e * 2 ^ j ≡ 2 ^ (e + j) * 2 = mul-assoc 2 (2 ^ e) (2 ^ j) ∙ mul-comm 2 (2 ^ e * 2 ^ j) ∙ ap (λ (y : ℕ). y * 2) (sym (pow-add 2 e j)) in
+        let g : 2 * 2 ^ e * 2 ^ j ≡ 2 ^ (e + j) * 2 =
+        mul-assoc 2 (2 ^ e) (2 ^ j) ∙ mul-comm 2 (2 ^ e * 2 ^ j) ∙ ap (λ (y : ℕ). y * 2) (sym (pow-add 2 e j)) in
         let c : left x (2 ^ (25 + j) * 2) < right x (2 ^ (e + j) * 2) = rw (← f, ← g) b in
         let d : left x (2 ^ (25 + j)) < right x (2 ^ (e + j)) = lt-scale x (2 ^ (e + j)) (2 ^ (25 + j)) 2 c in
         let m : suc (2 ^ (e + j) - 1) ≡ 2 ^ (e + j) = omega (arith, pow-pos (e + j)) in
@@ -324,7 +365,9 @@ module _ (x : Magnitude) (t : ℕ) (hd : 0 < denominator x) (p : Placed x t) (mo
 
     -- at least 2 ^ -14
     normal : 2 ^ 13 ≤ t → free ≡ significant 24 mode neg x * 2 ^ suc j
-    normal h = ap (λ (y : ℕ). significant y mode neg x) (let e : 25 + j ≡ 24 + suc j = omega arith in e) ∙ significant-finer x hd mode neg 24 (suc j) (rw whole24 (omega arith))
+    normal h =
+        ap (λ (y : ℕ). significant y mode neg x) (let e : 25 + j ≡ 24 + suc j = omega arith in e) ∙ significant-finer x hd mode neg 24
+        (suc j) (rw whole24 (omega arith))
 
     -- at least 2 ^ -15, below 2 ^ -14
     middle : 2 ^ 12 ≤ t → t < 2 ^ 13 → free ≡ steps mode neg t * 2 ^ j
@@ -336,17 +379,21 @@ module _ (x : Magnitude) (t : ℕ) (hd : 0 < denominator x) (p : Placed x t) (mo
         q : ℕ
         q = steps mode neg (place t (2 ^ (size t - 14 + 2)))
 
-        go : (b : Bool) → leb (2 ^ 13) t ≡ b → leb (65536 * 2 ^ (25 + j)) free ≡ leb 31744 ((size t - 14) * 1024 + steps mode neg (place t (2 ^ (size t - 14 + 2))))
+        go : (b : Bool) → leb (2 ^ 13) t ≡ b
+            → leb (65536 * 2 ^ (25 + j)) free ≡ leb 31744 ((size t - 14) * 1024 + steps mode neg (place t (2 ^ (size t - 14 + 2))))
         go true e =
             let h : 2 ^ 13 ≤ t = leb-true _ _ e in
             let k : ℕ = size t - 14 in
             let n : ℕ = steps mode neg (place t (2 ^ (size t - 14 + 2))) * 2 ^ (size t - 14) in
             let f : free ≡ n * 2 ^ suc j = normal h ∙ ap (λ (y : ℕ). y * 2 ^ suc j) sig24 in
             let g : 65536 * 2 ^ (25 + j) ≡ 2 ^ 40 * 2 ^ suc j = omega (arith, pow-add 2 25 j) in
-            let c : leb (2 ^ 40 * 2 ^ suc j) (n * 2 ^ suc j) ≡ leb (2 ^ 40) n = ap isLe (cmp-scale (2 ^ 40) n (2 ^ suc j) (pow-pos (suc j))) in
-            let d : n * 2 ^ 40 ≡ steps mode neg (place t (2 ^ (size t - 14 + 2))) * 2 ^ (k + 40) = pow-join (steps mode neg (place t (2 ^ (size t - 14 + 2)))) k 40 refl in
+            let c : leb (2 ^ 40 * 2 ^ suc j) (n * 2 ^ suc j) ≡ leb (2 ^ 40) n =
+            ap isLe (cmp-scale (2 ^ 40) n (2 ^ suc j) (pow-pos (suc j))) in
+            let d : n * 2 ^ 40 ≡ steps mode neg (place t (2 ^ (size t - 14 + 2))) * 2 ^ (k + 40) =
+            pow-join (steps mode neg (place t (2 ^ (size t - 14 + 2)))) k 40 refl in
             let o : leb (2 ^ 40) n ≡ leb (2 ^ 80) (n * 2 ^ 40) = sym (ap isLe (cmp-scale (2 ^ 40) n (2 ^ 40) (omega arith))) in
-            ap (λ (y : ℕ). leb (65536 * 2 ^ (25 + j)) y) f ∙ ap (λ (y : ℕ). leb y (n * 2 ^ suc j)) g ∙ c ∙ o ∙ ap (λ (y : ℕ). leb (2 ^ 80) y) d
+            ap (λ (y : ℕ). leb (65536 * 2 ^ (25 + j)) y) f ∙ ap (λ (y : ℕ). leb y (n * 2 ^ suc j)) g ∙ c ∙ o
+            ∙ ap (λ (y : ℕ). leb (2 ^ 80) y) d
             ∙ over-test k (steps mode neg (place t (2 ^ (size t - 14 + 2)))) (kept-ge h) kept-le
         go false e =
             let h : t < 2 ^ 13 = leb-false _ _ e in
@@ -355,7 +402,8 @@ module _ (x : Magnitude) (t : ℕ) (hd : 0 < denominator x) (p : Placed x t) (mo
             lt-leb (65536 * 2 ^ (25 + j)) free (omega (arith, pow-add 2 25 j, pow-add 2 11 j, pow-pos j, a))
             ∙ sym (lt-leb 31744 ((size t - 14) * 1024 + steps mode neg (place t (2 ^ (size t - 14 + 2)))) (omega (arith, kept-le)))
 
-    tiny-at : (0 < left x 1 → right x 1 ≤ left x (2 ^ (25 + j))) → (ltb 0 free && ltb (free * 2 ^ 14) (2 ^ (25 + j))) ≡ (ltb 0 t && ltb (steps mode neg t) 2048)
+    tiny-at : (0 < left x 1 → right x 1 ≤ left x (2 ^ (25 + j)))
+        → (ltb 0 free && ltb (free * 2 ^ 14) (2 ^ (25 + j))) ≡ (ltb 0 t && ltb (steps mode neg t) 2048)
     tiny-at fine = go (leb (2 ^ 13) t) (leb (2 ^ 12) t) refl refl
       where
         zero-same : (b : Bool) → ltb 0 t ≡ b → ltb 0 free ≡ b
@@ -370,10 +418,15 @@ module _ (x : Magnitude) (t : ℕ) (hd : 0 < denominator x) (p : Placed x t) (mo
         same y = inner (ltb y 2048) refl
           where
             inner : (b : Bool) → ltb y 2048 ≡ b → ltb (y * 2 ^ j * 2 ^ 14) (2 ^ (25 + j)) ≡ b
-            inner true e = let m : suc y * 2 ^ j ≤ 2048 * 2 ^ j = mul-le-mul-right (2 ^ j) (ltb-true _ _ e) in lt-ltb (y * 2 ^ j * 2 ^ 14) (2 ^ (25 + j)) (omega (arith, pow-add 2 25 j, pow-pos j))
-            inner false e = let m : 2048 * 2 ^ j ≤ y * 2 ^ j = mul-le-mul-right (2 ^ j) (ltb-false _ _ e) in le-ltb (y * 2 ^ j * 2 ^ 14) (2 ^ (25 + j)) (omega (arith, pow-add 2 25 j))
+            inner true e =
+                let m : suc y * 2 ^ j ≤ 2048 * 2 ^ j = mul-le-mul-right (2 ^ j) (ltb-true _ _ e) in lt-ltb (y * 2 ^ j * 2 ^ 14)
+                (2 ^ (25 + j)) (omega (arith, pow-add 2 25 j, pow-pos j))
+            inner false e =
+                let m : 2048 * 2 ^ j ≤ y * 2 ^ j = mul-le-mul-right (2 ^ j) (ltb-false _ _ e) in le-ltb (y * 2 ^ j * 2 ^ 14) (2 ^ (25 + j))
+                (omega (arith, pow-add 2 25 j))
 
-        go : (b c : Bool) → leb (2 ^ 13) t ≡ b → leb (2 ^ 12) t ≡ c → (ltb 0 free && ltb (free * 2 ^ 14) (2 ^ (25 + j))) ≡ (ltb 0 t && ltb (steps mode neg t) 2048)
+        go : (b c : Bool) → leb (2 ^ 13) t ≡ b → leb (2 ^ 12) t ≡ c
+            → (ltb 0 free && ltb (free * 2 ^ 14) (2 ^ (25 + j))) ≡ (ltb 0 t && ltb (steps mode neg t) 2048)
         go true c e g =
             let h : 2 ^ 13 ≤ t = leb-true _ _ e in
             let k : ℕ = size t - 14 in
@@ -388,14 +441,17 @@ module _ (x : Magnitude) (t : ℕ) (hd : 0 < denominator x) (p : Placed x t) (mo
             let h : t < 2 ^ 13 = leb-false _ _ e in
             let l : 2 ^ 12 ≤ t = leb-true _ _ g in
             let f : free ≡ steps mode neg t * 2 ^ j = middle l h in
-            let a : ltb (free * 2 ^ 14) (2 ^ (25 + j)) ≡ ltb (steps mode neg t) 2048 = ap (λ (y : ℕ). ltb (y * 2 ^ 14) (2 ^ (25 + j))) f ∙ same (steps mode neg t) in
+            let a : ltb (free * 2 ^ 14) (2 ^ (25 + j)) ≡ ltb (steps mode neg t) 2048 =
+            ap (λ (y : ℕ). ltb (y * 2 ^ 14) (2 ^ (25 + j))) f ∙ same (steps mode neg t) in
             ap (λ (y : Bool). ltb 0 free && y) a ∙ ap (λ (y : Bool). y && ltb (steps mode neg t) 2048) (zero-same (ltb 0 t) refl)
         go false false e g =
             let l : t < 2 ^ 12 = leb-false _ _ g in
             let f : free ≤ 2 ^ (10 + j) = significant-le x hd mode neg (25 + j) (10 + j) (few 10 l) in
-            let a : ltb (free * 2 ^ 14) (2 ^ (25 + j)) ≡ true = lt-ltb (free * 2 ^ 14) (2 ^ (25 + j)) (omega (arith, pow-add 2 25 j, pow-add 2 10 j, pow-pos j, f)) in
+            let a : ltb (free * 2 ^ 14) (2 ^ (25 + j)) ≡ true =
+            lt-ltb (free * 2 ^ 14) (2 ^ (25 + j)) (omega (arith, pow-add 2 25 j, pow-add 2 10 j, pow-pos j, f)) in
             let b : ltb (steps mode neg t) 2048 ≡ true = lt-ltb (steps mode neg t) 2048 (omega (arith, steps-le mode neg t)) in
-            ap (λ (y : Bool). ltb 0 free && y) a ∙ ap (λ (y : Bool). y && true) (zero-same (ltb 0 t) refl) ∙ ap (λ (y : Bool). ltb 0 t && y) (sym b)
+            ap (λ (y : Bool). ltb 0 free && y) a ∙ ap (λ (y : Bool). y && true) (zero-same (ltb 0 t) refl)
+            ∙ ap (λ (y : Bool). ltb 0 t && y) (sym b)
 
   abbrev z14 : ℕ
   z14 = place t (2 ^ (size t - 14 + 2))

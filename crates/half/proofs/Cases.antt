@@ -7,7 +7,8 @@ use borrow.Author.Tests.{not-true}
 use Rattle.half.specs.Format.{isFinite, isNan, isSignalling, isSubnormal, isZero, negative, units}
 use Rattle.half.specs.Exact.{ratio, rootOf}
 use Rattle.half.specs.Round.{roundedHalf}
-use Rattle.half.specs.Operations.{nanResult, withDenormals, unlike, exactSum, halfAdd, halfMultiply, halfDivide, halfRoot, halfMultiplyAdd}
+use Rattle.half.specs.Operations.{nanResult, withDenormals, unlike, exactSum, halfAdd, halfMultiply, halfDivide, halfRoot}
+use Rattle.half.specs.Operations.{halfMultiplyAdd}
 use Rattle.half.specs.declared.Mode.{Mode}
 use Rattle.half.proofs.Compare.{and-false}
 use Rattle.half.proofs.Units.{finite-no-nan, finite-no-infinity}
@@ -47,11 +48,13 @@ module _ (mode : Mode) (unmaskedUE : Bool) (a b : ℕ) where
     fb : isFinite b ≡ true
     fb = and-left (isFinite b) (isFinite b) (and-right (isFinite a) (isFinite b && isFinite b) f)
 
-    pub finite-add : halfAdd mode unmaskedUE a b ≡ withDenormals (a ∷ b ∷ []) (exactSum mode unmaskedUE (negative a) (units a) (negative b) (units b) (2 ^ 24))
+    pub finite-add : halfAdd mode unmaskedUE a b
+        ≡ withDenormals (a ∷ b ∷ []) (exactSum mode unmaskedUE (negative a) (units a) (negative b) (units b) (2 ^ 24))
     unfolding halfAdd
     finite-add = rw (finite-no-nan a fa, finite-no-nan b fb, finite-no-infinity a fa, finite-no-infinity b fb)
 
-    pub finite-multiply : halfMultiply mode unmaskedUE a b ≡ withDenormals (a ∷ b ∷ []) (roundedHalf mode unmaskedUE (unlike a b) (ratio (units a * units b) (2 ^ 48)))
+    pub finite-multiply : halfMultiply mode unmaskedUE a b
+        ≡ withDenormals (a ∷ b ∷ []) (roundedHalf mode unmaskedUE (unlike a b) (ratio (units a * units b) (2 ^ 48)))
     unfolding halfMultiply
     finite-multiply = rw (finite-no-nan a fa, finite-no-nan b fb, finite-no-infinity a fa, finite-no-infinity b fb, and-false (isZero a))
 
@@ -63,11 +66,23 @@ module _ (mode : Mode) (unmaskedUE : Bool) (a b : ℕ) where
     divisor-finite = and-left (isFinite b) (not (isZero b)) (and-right (isFinite a) (isFinite b && not (isZero b)) f)
 
     pub divisor-not-zero : isZero b ≡ false
-    divisor-not-zero = not-true (isZero b) (and-right (isFinite b) (not (isZero b)) (and-right (isFinite a) (isFinite b && not (isZero b)) f))
+    divisor-not-zero =
+        not-true (isZero b) (and-right (isFinite b) (not (isZero b)) (and-right (isFinite a) (isFinite b && not (isZero b)) f))
 
-    pub finite-divide : halfDivide mode unmaskedUE a b ≡ withDenormals (a ∷ b ∷ []) (roundedHalf mode unmaskedUE (unlike a b) (ratio (units a) (units b)))
+    pub finite-divide : halfDivide mode unmaskedUE a b
+        ≡ withDenormals (a ∷ b ∷ []) (roundedHalf mode unmaskedUE (unlike a b) (ratio (units a) (units b)))
     unfolding halfDivide
-    finite-divide = rw (finite-no-nan a dividend-finite, finite-no-nan b divisor-finite, finite-no-infinity a dividend-finite, finite-no-infinity b divisor-finite, divisor-not-zero, and-false (isZero a), and-false (isFinite a && not (isZero a)))
+    finite-divide =
+        rw (
+          finite-no-nan a dividend-finite,
+          finite-no-nan b divisor-finite,
+          finite-no-infinity a dividend-finite,
+          finite-no-infinity b
+              divisor-finite,
+          divisor-not-zero,
+          and-false (isZero a),
+          and-false (isFinite a && not (isZero a)),
+        )
 
 module _ (mode : Mode) (unmaskedUE : Bool) (a b c : ℕ) (f : (isFinite a && (isFinite b && isFinite c)) ≡ true) where
   first : isFinite a ≡ true
@@ -83,7 +98,15 @@ module _ (mode : Mode) (unmaskedUE : Bool) (a b c : ℕ) (f : (isFinite a && (is
       ≡ withDenormals (a ∷ b ∷ c ∷ []) (exactSum mode unmaskedUE (unlike a b) (units a * units b) (negative c) (units c * 2 ^ 24) (2 ^ 48))
   unfolding halfMultiplyAdd
   finite-multiply-add =
-      rw (finite-no-nan a first, finite-no-nan b second, finite-no-nan c third, finite-no-infinity a first, finite-no-infinity b second, finite-no-infinity c third, and-false (isZero a))
+      rw (
+        finite-no-nan a first,
+        finite-no-nan b second,
+        finite-no-nan c third,
+        finite-no-infinity a first,
+        finite-no-infinity b second,
+        finite-no-infinity c third,
+        and-false (isZero a),
+      )
 
 -- a root of a finite number above 0
 module _ (a : ℕ) (f : (isFinite a && (not (negative a) && not (isZero a))) ≡ true) where
@@ -99,15 +122,26 @@ module _ (a : ℕ) (f : (isFinite a && (not (negative a) && not (isZero a))) ≡
   pub root-finite : (isFinite a ≡ true) × (isZero a ≡ false)
   root-finite = (radicand-finite, not-zero)
 
-  pub finite-root : (mode : Mode) (unmaskedUE : Bool) → halfRoot mode unmaskedUE a ≡ withDenormals (a ∷ a ∷ a ∷ []) (roundedHalf mode unmaskedUE false (rootOf (units a) (2 ^ 24)))
+  pub finite-root : (mode : Mode) (unmaskedUE : Bool)
+      → halfRoot mode unmaskedUE a ≡ withDenormals (a ∷ a ∷ a ∷ []) (roundedHalf mode unmaskedUE false (rootOf (units a) (2 ^ 24)))
   unfolding halfRoot
   finite-root mode unmaskedUE =
-      rw (finite-no-nan a radicand-finite, finite-no-infinity a radicand-finite, not-zero, not-true (negative a) (and-left (not (negative a)) (not (isZero a)) above-zero), again (isSubnormal a), again (isSubnormal a))
+      rw (
+        finite-no-nan a radicand-finite,
+        finite-no-infinity a radicand-finite,
+        not-zero,
+        not-true (negative a)
+            (and-left (not (negative a)) (not (isZero a)) above-zero),
+        again (isSubnormal a),
+        again (isSubnormal a),
+      )
 
 -- the code's test of a dividend and a divisor
-pub ordinary : (a b : ℕ) {p q z t : Bool} → p ≡ isFinite a → q ≡ isFinite b → z ≡ isZero b → (p && (q && not z)) ≡ t → (isFinite a && (isFinite b && not (isZero b))) ≡ t
+pub ordinary : (a b : ℕ) {p q z t : Bool} → p ≡ isFinite a → q ≡ isFinite b → z ≡ isZero b → (p && (q && not z)) ≡ t
+    → (isFinite a && (isFinite b && not (isZero b))) ≡ t
 ordinary a b hp hq hz e = rw (← hp, ← hq, ← hz) e
 
 -- and of a radicand
-pub radicand : (a : ℕ) {p s z t : Bool} → p ≡ isFinite a → s ≡ negative a → z ≡ isZero a → (p && (not s && not z)) ≡ t → (isFinite a && (not (negative a) && not (isZero a))) ≡ t
+pub radicand : (a : ℕ) {p s z t : Bool} → p ≡ isFinite a → s ≡ negative a → z ≡ isZero a → (p && (not s && not z)) ≡ t
+    → (isFinite a && (not (negative a) && not (isZero a))) ≡ t
 radicand a hp hs hz e = rw (← hp, ← hs, ← hz) e

@@ -4,7 +4,8 @@ use Prim.Native.Nat.{ℕ, suc, _+_, _-_, _*_, _/_, _%_, _^_, _≤_, _<_}
 use mathlib.Core.Bool.{Bool, true, false, not, _&&_, cond}
 use mathlib.Core.Path.{_≡_, refl, sym, ap, _∙_, subst}
 use native.Mathlib.Omega.{arith}
-use native.Mathlib.Nat.{mul-assoc, mul-comm, mul-pos, le-trans, le-of-eq, lt-of-lt-of-le, mul-le-mul-right, mul-lt-mul-of-pos-right, le-div-iff-mul-le, div-lt-iff-lt-mul, mod-eq-of-lt, pow-succ', zero-mul, pos-of-ne-zero}
+use native.Mathlib.Nat.{mul-assoc, mul-comm, mul-pos, le-trans, le-of-eq, lt-of-lt-of-le, mul-le-mul-right, mul-lt-mul-of-pos-right}
+use native.Mathlib.Nat.{le-div-iff-mul-le, div-lt-iff-lt-mul, mod-eq-of-lt, pow-succ', zero-mul, pos-of-ne-zero}
 use lib.Bits.{bitOr, or-zero-r}
 use lib.Dec.{leb, ltb, eqb}
 use lib.Pow.{pow-pos, pow-add, pow-mono}
@@ -37,16 +38,32 @@ module _ (T k z : ℕ) (e : z ≡ place T (2 ^ (k + 2))) (lo : 2 ^ 12 ≤ z) (hi
   whole-z = omega arith
 
   T-ge : 2 ^ (k + 13) ≤ T
-  T-ge = omega (arith, pow-add 2 k 2, pow-add 2 k 13, le-div-iff-mul-le {k = 2 ^ (k + 2)} {x = 2 ^ 11} {y = T} (pow-pos (k + 2)) .0 (omega (arith, whole-z)))
+  T-ge =
+      omega (
+        arith,
+        pow-add 2 k 2,
+        pow-add 2 k 13,
+        le-div-iff-mul-le {k = 2 ^ (k + 2)} {x = 2 ^ 11} {y = T} (pow-pos (k + 2)) .0
+            (omega (arith, whole-z)),
+      )
 
   T-lt : T < 2 ^ suc (k + 13)
-  T-lt = omega (arith, pow-add 2 k 2, pow-add 2 k 13, pow-succ' 2 (k + 13), div-lt-iff-lt-mul {k = 2 ^ (k + 2)} {x = T} {y = 2 ^ 12} (pow-pos (k + 2)) .0 (omega (arith, whole-z)))
+  T-lt =
+      omega (
+        arith,
+        pow-add 2 k 2,
+        pow-add 2 k 13,
+        pow-succ' 2 (k + 13),
+        div-lt-iff-lt-mul {k = 2 ^ (k + 2)} {x = T} {y = 2 ^ 12}
+            (pow-pos (k + 2)) .0 (omega (arith, whole-z)),
+      )
 
   coarse-kept : (mode : Mode) (unmaskedUE neg : Bool) → coarse mode unmaskedUE neg T ≡ kept mode neg k z
   unfolding coarse kept
   coarse-kept mode unmaskedUE neg =
       let a : size T - 14 ≡ k = let l : size T ≡ suc (k + 13) = size-is T (k + 13) T-ge T-lt in omega arith in
-      let b : ltb (steps mode neg T) 2048 ≡ false = le-ltb (steps mode neg T) 2048 (omega (arith, steps-ge mode neg T, T-ge, pow-add 2 k 13, pow-pos k)) in
+      let b : ltb (steps mode neg T) 2048 ≡ false =
+      le-ltb (steps mode neg T) 2048 (omega (arith, steps-ge mode neg T, T-ge, pow-add 2 k 13, pow-pos k)) in
       rw (a, ← e, b, and-false (ltb 0 T), or-zero-r)
 
 -- ---- digits below the thirteenth may be joined to it: t is the place of T in units that are 2 ^ k times as large
@@ -61,14 +78,20 @@ module _ (t k T : ℕ) (hk : 1 ≤ k) (e : t ≡ place T (2 * 2 ^ k)) (lo : 2 ^ 
   size-t = let l : 12 < size t = size-large t 12 lo in omega arith
 
   z-ge : 2 ^ 12 ≤ z
-  z-ge = place-ge t (2 * 2 ^ s) (2 ^ 11) (omega (arith, pow-pos s)) (omega (arith, pow-add 2 s 12, size-reaches t (s + 12) (omega (arith, size-t))))
+  z-ge =
+      place-ge t (2 * 2 ^ s) (2 ^ 11) (omega (arith, pow-pos s))
+      (omega (arith, pow-add 2 s 12, size-reaches t (s + 12) (omega (arith, size-t))))
 
   z-lt : z < 2 ^ 13
-  z-lt = place-lt t (2 * 2 ^ s) (2 ^ 12) (omega (arith, pow-pos s)) (omega (arith, pow-add 2 s 13, subst (λ (n : ℕ). t < 2 ^ n) size-t (size-lt t)))
+  z-lt =
+      place-lt t (2 * 2 ^ s) (2 ^ 12) (omega (arith, pow-pos s))
+      (omega (arith, pow-add 2 s 13, subst (λ (n : ℕ). t < 2 ^ n) size-t (size-lt t)))
 
   -- the unit of z
   unit : 2 * 2 ^ s * 2 ^ k ≡ 2 ^ (s + k - 1 + 2)
-  unit = sym (ap (λ (n : ℕ). 2 ^ n) (let f : s + k - 1 + 2 ≡ s + 1 + k = omega arith in f) ∙ pow-add 2 (s + 1) k ∙ ap (λ (n : ℕ). n * 2 ^ k) (let f : 2 ^ (s + 1) ≡ 2 * 2 ^ s = omega (arith, pow-add 2 s 1) in f))
+  unit =
+      sym (ap (λ (n : ℕ). 2 ^ n) (let f : s + k - 1 + 2 ≡ s + 1 + k = omega arith in f) ∙ pow-add 2 (s + 1) k ∙ ap (λ (n : ℕ). n * 2 ^ k)
+      (let f : 2 ^ (s + 1) ≡ 2 * 2 ^ s = omega (arith, pow-add 2 s 1) in f))
 
   of-t : z ≡ place (t * 2 ^ k) (2 ^ (s + k - 1 + 2))
   of-t = sym (place-scale t (2 * 2 ^ s) (2 ^ k) (omega (arith, pow-pos s)) (pow-pos k)) ∙ ap (λ (d : ℕ). place (t * 2 ^ k) d) unit
@@ -79,10 +102,14 @@ module _ (t k T : ℕ) (hk : 1 ≤ k) (e : t ≡ place T (2 * 2 ^ k)) (lo : 2 ^ 
       ∙ ap (λ (d : ℕ). place T d) (sym (mul-assoc (2 ^ s) 2 (2 ^ k)) ∙ ap (λ (n : ℕ). n * 2 ^ k) (mul-comm (2 ^ s) 2) ∙ unit)
 
   wide : (mode : Mode) (unmaskedUE neg : Bool) → coarse mode unmaskedUE neg T ≡ coarse mode unmaskedUE neg (t * 2 ^ k)
-  wide mode unmaskedUE neg = coarse-kept T (s + k - 1) z of-T z-ge z-lt mode unmaskedUE neg ∙ sym (coarse-kept (t * 2 ^ k) (s + k - 1) z of-t z-ge z-lt mode unmaskedUE neg)
+  wide mode unmaskedUE neg =
+      coarse-kept T (s + k - 1) z of-T z-ge z-lt mode unmaskedUE neg
+      ∙ sym (coarse-kept (t * 2 ^ k) (s + k - 1) z of-t z-ge z-lt mode unmaskedUE neg)
 
-  pub sticky-wide : (mode : Mode) (unmaskedUE neg : Bool) (x : Magnitude) → 0 < denominator x → Placed x T → roundedHalf mode unmaskedUE neg x ≡ roundedHalf mode unmaskedUE neg (ratio (t * 2 ^ k) (2 ^ 27))
-  sticky-wide mode unmaskedUE neg x hd p = bridge x T hd p mode neg unmaskedUE ∙ wide mode unmaskedUE neg ∙ sym (of-place mode unmaskedUE neg (t * 2 ^ k))
+  pub sticky-wide : (mode : Mode) (unmaskedUE neg : Bool) (x : Magnitude) → 0 < denominator x → Placed x T
+      → roundedHalf mode unmaskedUE neg x ≡ roundedHalf mode unmaskedUE neg (ratio (t * 2 ^ k) (2 ^ 27))
+  sticky-wide mode unmaskedUE neg x hd p =
+      bridge x T hd p mode neg unmaskedUE ∙ wide mode unmaskedUE neg ∙ sym (of-place mode unmaskedUE neg (t * 2 ^ k))
 
 -- ---- the shared law: of a ratio N / D, scaled by a power of two, 13 digits or more of its place t may stand for it
 module _ (mode : Mode) (unmaskedUE neg : Bool) (N D t : ℕ) (hd : 0 < D) (ht : t ≡ place N D) where
@@ -99,12 +126,16 @@ module _ (mode : Mode) (unmaskedUE neg : Bool) (N D t : ℕ) (hd : 0 < D) (ht : 
   -- in finer units t is the place of a place with k digits more
   of-finer : (k : ℕ) → t ≡ place (place (N * 2 ^ k) D) (2 * 2 ^ k)
   of-finer k =
-      ht ∙ sym (place-place (N * 2 ^ k) D (2 ^ k) hd (pow-pos k) ∙ ap (λ (d : ℕ). place (N * 2 ^ k) d) (mul-comm (2 ^ k) D) ∙ place-scale N D (2 ^ k) hd (pow-pos k))
+      ht ∙ sym (place-place (N * 2 ^ k) D (2 ^ k) hd (pow-pos k) ∙ ap (λ (d : ℕ). place (N * 2 ^ k) d) (mul-comm (2 ^ k) D) ∙ place-scale N
+      D (2 ^ k) hd (pow-pos k))
 
-  pub digits : 2 ^ 12 ≤ t → (e m : ℕ) → roundedHalf mode unmaskedUE neg (ratio (N * 2 ^ e) (D * 2 ^ m)) ≡ roundedHalf mode unmaskedUE neg (ratio (t * 2 ^ e) (2 * 2 ^ m))
+  pub digits : 2 ^ 12 ≤ t → (e m : ℕ)
+      → roundedHalf mode unmaskedUE neg (ratio (N * 2 ^ e) (D * 2 ^ m)) ≡ roundedHalf mode unmaskedUE neg (ratio (t * 2 ^ e) (2 * 2 ^ m))
   digits lo e m = go (leb (e + 26) m) refl
     where
-      go : (b : Bool) → leb (e + 26) m ≡ b → roundedHalf mode unmaskedUE neg (ratio (N * 2 ^ e) (D * 2 ^ m)) ≡ roundedHalf mode unmaskedUE neg (ratio (t * 2 ^ e) (2 * 2 ^ m))
+      go : (b : Bool) → leb (e + 26) m ≡ b
+          → roundedHalf mode unmaskedUE neg (ratio (N * 2 ^ e) (D * 2 ^ m))
+          ≡ roundedHalf mode unmaskedUE neg (ratio (t * 2 ^ e) (2 * 2 ^ m))
       go true f =
           let l : e + 26 ≤ m = leb-true _ _ f in
           sticky-ratio mode unmaskedUE neg (N * 2 ^ e) (D * 2 ^ m) (mul-pos hd (pow-pos m))
@@ -129,17 +160,20 @@ module _ (mode : Mode) (neg : Bool) (z k : ℕ) (lo : 2 ^ 12 ≤ z) (hi : z < 2 
   rounds : (unmaskedUE : Bool) → roundedHalf mode unmaskedUE neg (ratio (z * 2 ^ k) (2 ^ 26)) ≡ kept mode neg k z
   rounds unmaskedUE =
       let u : 2 ^ (k + 2) ≡ 2 * 2 ^ (k + 1) = omega (arith, pow-add 2 k 2, pow-add 2 k 1) in
-      let p : place (z * 2 ^ (k + 1)) (2 ^ (k + 2)) ≡ z = ap (λ (d : ℕ). place (z * 2 ^ (k + 1)) d) u ∙ place-scale z 2 (2 ^ (k + 1)) (omega arith) (pow-pos (k + 1)) ∙ place-two z in
+      let p : place (z * 2 ^ (k + 1)) (2 ^ (k + 2)) ≡ z =
+      ap (λ (d : ℕ). place (z * 2 ^ (k + 1)) d) u ∙ place-scale z 2 (2 ^ (k + 1)) (omega arith) (pow-pos (k + 1)) ∙ place-two z in
       sym (rounded-scale mode unmaskedUE neg (z * 2 ^ k) (2 ^ 26) 2 (omega arith) (omega arith))
       ∙ ap (λ (m : ℕ). roundedHalf mode unmaskedUE neg (ratio m (2 ^ 27))) (pow-join z k 1 refl)
       ∙ of-place mode unmaskedUE neg (z * 2 ^ (k + 1))
       ∙ coarse-kept (z * 2 ^ (k + 1)) k z (sym p) lo hi mode unmaskedUE neg
 
-  pub packed-over : 31744 ≤ k * 1024 + q → {o : Outcome} → o ≡ result (withSign neg (overflowFields mode neg)) (bitOr OE PE) → (unmaskedUE : Bool) → o ≡ roundedHalf mode unmaskedUE neg (ratio (z * 2 ^ k) (2 ^ 26))
+  pub packed-over : 31744 ≤ k * 1024 + q → {o : Outcome} → o ≡ result (withSign neg (overflowFields mode neg)) (bitOr OE PE)
+      → (unmaskedUE : Bool) → o ≡ roundedHalf mode unmaskedUE neg (ratio (z * 2 ^ k) (2 ^ 26))
   unfolding kept
   packed-over g ho unmaskedUE = ho ∙ sym (rounds unmaskedUE ∙ rw (← hq, le-leb 31744 (k * 1024 + q) g))
 
-  pub packed-fits : k * 1024 + q < 31744 → {h f : ℕ} → h ≡ withSign neg (k * 1024 + q) → f ≡ flag PE (not (eqb (z % 4) 0)) → (unmaskedUE : Bool) → result h f ≡ roundedHalf mode unmaskedUE neg (ratio (z * 2 ^ k) (2 ^ 26))
+  pub packed-fits : k * 1024 + q < 31744 → {h f : ℕ} → h ≡ withSign neg (k * 1024 + q) → f ≡ flag PE (not (eqb (z % 4) 0))
+      → (unmaskedUE : Bool) → result h f ≡ roundedHalf mode unmaskedUE neg (ratio (z * 2 ^ k) (2 ^ 26))
   unfolding kept
   packed-fits g hh hf unmaskedUE = sym (rounds unmaskedUE ∙ rw (← hq, lt-leb 31744 (k * 1024 + q) g, ← hh, ← hf))
 
@@ -153,7 +187,9 @@ module _ (m e : ℕ) (fits : m < 2 ^ 64) {v : ℕ} (hv : v ≡ leadingZeros 64 m
   zeros = ap (λ (n : ℕ). n + size m) hv ∙ zeros-size m fits
 
   small-to : e + 20 < v → m * 2 ^ e < 2 ^ 43
-  small-to h = lt-of-lt-of-le (mul-lt-mul-of-pos-right (size-lt m) (pow-pos e)) (le-trans (le-of-eq (sym (pow-add 2 (size m) e))) (pow-mono {i = size m + e} {j = 43} (omega (arith, zeros))))
+  small-to h =
+      lt-of-lt-of-le (mul-lt-mul-of-pos-right (size-lt m) (pow-pos e))
+      (le-trans (le-of-eq (sym (pow-add 2 (size m) e))) (pow-mono {i = size m + e} {j = 43} (omega (arith, zeros))))
 
   pub large-test : (not (eqb m 0) && leb v (e + 20)) ≡ leb (2 ^ 43) (m * 2 ^ e)
   large-test = go (eqb m 0) (leb v (e + 20)) refl refl
@@ -183,8 +219,10 @@ module _ (m e : ℕ) (fits : m < 2 ^ 64) {v : ℕ} (hv : v ≡ leadingZeros 64 m
     tops : (2 ^ 63 ≤ m * 2 ^ v) × (m * 2 ^ v < 2 ^ 64)
     tops =
         let g : 2 ^ (size m - 1) ≤ m = size-reaches m (size m - 1) (omega (arith, size-pos)) in
-        let a : 2 ^ 63 ≡ 2 ^ (size m - 1) * 2 ^ v = ap (λ (n : ℕ). 2 ^ n) (let f : 63 ≡ size m - 1 + v = omega (arith, zeros, size-pos) in f) ∙ pow-add 2 (size m - 1) v in
-        let b : 2 ^ size m * 2 ^ v ≡ 2 ^ 64 = sym (pow-add 2 (size m) v) ∙ ap (λ (n : ℕ). 2 ^ n) (let f : size m + v ≡ 64 = omega (arith, zeros) in f) in
+        let a : 2 ^ 63 ≡ 2 ^ (size m - 1) * 2 ^ v =
+        ap (λ (n : ℕ). 2 ^ n) (let f : 63 ≡ size m - 1 + v = omega (arith, zeros, size-pos) in f) ∙ pow-add 2 (size m - 1) v in
+        let b : 2 ^ size m * 2 ^ v ≡ 2 ^ 64 =
+        sym (pow-add 2 (size m) v) ∙ ap (λ (n : ℕ). 2 ^ n) (let f : size m + v ≡ 64 = omega (arith, zeros) in f) in
         (le-trans (le-of-eq a) (mul-le-mul-right (2 ^ v) g), lt-of-lt-of-le (mul-lt-mul-of-pos-right (size-lt m) (pow-pos v)) (le-of-eq b))
 
     module _ {z : ℕ} (hz : z ≡ place (m * 2 ^ v % 2 ^ 64) (2 ^ 52)) where
@@ -192,20 +230,29 @@ module _ (m e : ℕ) (fits : m < 2 ^ 64) {v : ℕ} (hv : v ≡ leadingZeros 64 m
       z-is = hz ∙ ap (λ (n : ℕ). place n (2 ^ 52)) (mod-eq-of-lt (tops .1))
 
       pub large-digits : (2 ^ 12 ≤ z) × (z < 2 ^ 13)
-      large-digits = (rw z-is (place-ge (m * 2 ^ v) (2 ^ 52) (2 ^ 11) (omega arith) (omega (arith, tops .0))), rw z-is (place-lt (m * 2 ^ v) (2 ^ 52) (2 ^ 12) (omega arith) (omega (arith, tops .1))))
+      large-digits = (
+        rw z-is (place-ge (m * 2 ^ v) (2 ^ 52) (2 ^ 11) (omega arith) (omega (arith, tops .0))),
+        rw z-is
+            (place-lt (m * 2 ^ v) (2 ^ 52) (2 ^ 12) (omega arith) (omega (arith, tops .1))),
+      )
 
-      pub large-rounds : (mode : Mode) (neg : Bool) {o : Outcome} → ((unmaskedUE : Bool) → o ≡ roundedHalf mode unmaskedUE neg (ratio (z * 2 ^ (e + 20 - v)) (2 ^ 26))) → (unmaskedUE : Bool) → o ≡ roundedHalf mode unmaskedUE neg (ratio (m * 2 ^ e) (2 ^ 57))
+      pub large-rounds : (mode : Mode) (neg : Bool) {o : Outcome}
+          → ((unmaskedUE : Bool) → o ≡ roundedHalf mode unmaskedUE neg (ratio (z * 2 ^ (e + 20 - v)) (2 ^ 26))) → (unmaskedUE : Bool)
+          → o ≡ roundedHalf mode unmaskedUE neg (ratio (m * 2 ^ e) (2 ^ 57))
       large-rounds mode neg ho unmaskedUE =
           let k : ℕ = e + 20 - v in
-          let f : m * 2 ^ v * 2 ^ k ≡ m * 2 ^ e * 2 ^ 20 = pow-join m v k (let g : v + k ≡ e + 20 = omega (arith, zeros-le) in g) ∙ sym (pow-join m e 20 refl) in
+          let f : m * 2 ^ v * 2 ^ k ≡ m * 2 ^ e * 2 ^ 20 =
+          pow-join m v k (let g : v + k ≡ e + 20 = omega (arith, zeros-le) in g) ∙ sym (pow-join m e 20 refl) in
           ho unmaskedUE ∙ sym (digits mode unmaskedUE neg (m * 2 ^ v) (2 ^ 52) z (omega arith) z-is (large-digits .0) k 25)
           ∙ ap (λ (n : ℕ). roundedHalf mode unmaskedUE neg (ratio n (2 ^ 77))) f
           ∙ rounded-scale mode unmaskedUE neg (m * 2 ^ e) (2 ^ 57) (2 ^ 20) (omega arith) (omega arith)
 
 -- where the half may be subnormal, by its place
-pub small-rounds : (mode : Mode) (unmaskedUE neg : Bool) (m e : ℕ) → e < 31 → {p : ℕ} {o : Outcome} → p ≡ place m (2 ^ (31 - e)) → o ≡ roundedHalf mode unmaskedUE neg (ratio p (2 ^ 27)) → o ≡ roundedHalf mode unmaskedUE neg (ratio (m * 2 ^ e) (2 ^ 57))
+pub small-rounds : (mode : Mode) (unmaskedUE neg : Bool) (m e : ℕ) → e < 31 → {p : ℕ} {o : Outcome} → p ≡ place m (2 ^ (31 - e))
+    → o ≡ roundedHalf mode unmaskedUE neg (ratio p (2 ^ 27)) → o ≡ roundedHalf mode unmaskedUE neg (ratio (m * 2 ^ e) (2 ^ 57))
 small-rounds mode unmaskedUE neg m e l hp h =
-    let d : 2 ^ (31 - e + 26) * 2 ^ e ≡ 2 ^ 57 = sym (pow-add 2 (31 - e + 26) e) ∙ ap (λ (n : ℕ). 2 ^ n) (let f : 31 - e + 26 + e ≡ 57 = omega arith in f) in
+    let d : 2 ^ (31 - e + 26) * 2 ^ e ≡ 2 ^ 57 =
+    sym (pow-add 2 (31 - e + 26) e) ∙ ap (λ (n : ℕ). 2 ^ n) (let f : 31 - e + 26 + e ≡ 57 = omega arith in f) in
     h ∙ ap (λ (n : ℕ). roundedHalf mode unmaskedUE neg (ratio n (2 ^ 27))) hp
     ∙ sym (sticky-shift mode unmaskedUE neg m (31 - e))
     ∙ sym (rounded-scale mode unmaskedUE neg m (2 ^ (31 - e + 26)) (2 ^ e) (pow-pos (31 - e + 26)) (pow-pos e))

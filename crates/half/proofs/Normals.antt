@@ -31,7 +31,8 @@ normal-test h = rw (and-mask ((h + 1024) / 2048) 4) (go (ltb 0 (exponentField h)
         let l : 0 < exponentField h = ltb-true _ _ e in
         let g : exponentField h < 31 = ltb-true _ _ f in
         let k : (h + 1024) / 2048 ≡ h / 1024 / 32 * 16 + (exponentField h + 1) / 2 = omega arith in
-        let m : (h + 1024) / 2048 % 16 ≡ (exponentField h + 1) / 2 = ap (λ (n : ℕ). n % 16) k ∙ digits-mod (h / 1024 / 32) (let r : (exponentField h + 1) / 2 < 16 = omega arith in r) in
+        let m : (h + 1024) / 2048 % 16 ≡ (exponentField h + 1) / 2 =
+        ap (λ (n : ℕ). n % 16) k ∙ digits-mod (h / 1024 / 32) (let r : (exponentField h + 1) / 2 < 16 = omega arith in r) in
         rw m (rw (ne-eqb ((exponentField h + 1) / 2) 0 (λ (z : (exponentField h + 1) / 2 ≡ 0). omega (l, z, arith))))
     go true false e f =
         let g : 31 ≤ exponentField h = ltb-false _ _ f in
@@ -42,8 +43,10 @@ normal-test h = rw (and-mask ((h + 1024) / 2048) 4) (go (ltb 0 (exponentField h)
         let k : (h + 1024) / 2048 ≡ h / 1024 / 32 * 16 = omega arith in
         rw (eq-eqb ((h + 1024) / 2048 % 16) 0 (ap (λ (n : ℕ). n % 16) k ∙ mul-mod-left (h / 1024 / 32) 16))
 
-pub all-normal : (a b c : ℕ) {p q r : Bool} → p ≡ isNormal a → q ≡ isNormal b → r ≡ isNormal c → (p && (q && r)) ≡ true → (isNormal a ≡ true) × (isNormal b ≡ true) × (isNormal c ≡ true)
-all-normal a b c {p} {q} {r} hp hq hr e = let f : (q && r) ≡ true = and-right p (q && r) e in (sym hp ∙ and-left p (q && r) e, sym hq ∙ and-left q r f, sym hr ∙ and-right q r f)
+pub all-normal : (a b c : ℕ) {p q r : Bool} → p ≡ isNormal a → q ≡ isNormal b → r ≡ isNormal c → (p && (q && r)) ≡ true
+    → (isNormal a ≡ true) × (isNormal b ≡ true) × (isNormal c ≡ true)
+all-normal a b c {p} {q} {r} hp hq hr e =
+    let f : (q && r) ≡ true = and-right p (q && r) e in (sym hp ∙ and-left p (q && r) e, sym hq ∙ and-left q r f, sym hr ∙ and-right q r f)
 
 -- ---- what a normal half is, and is not
 module _ (h : ℕ) (n : isNormal h ≡ true) where
@@ -82,23 +85,35 @@ module _ (h : ℕ) (n : isNormal h ≡ true) where
 plain : (o : Outcome) → result (o .half) (bitOr 0 (o .flags)) ≡ o
 plain o = ap (λ (f : ℕ). result (o .half) f) (or-zero-l (o .flags))
 
-pub normal-root : (mode : Mode) (unmaskedUE : Bool) (a : ℕ) → isNormal a ≡ true → negative a ≡ false → halfRoot mode unmaskedUE a ≡ roundedHalf mode unmaskedUE false (rootOf (units a) (2 ^ 24))
-normal-root mode unmaskedUE a na s = finite-root a (rw (normal-finite a na, s, normal-zero a na)) mode unmaskedUE ∙ rw (no-denormal a na) (plain (roundedHalf mode unmaskedUE false (rootOf (units a) (2 ^ 24))))
+pub normal-root : (mode : Mode) (unmaskedUE : Bool) (a : ℕ) → isNormal a ≡ true → negative a ≡ false
+    → halfRoot mode unmaskedUE a ≡ roundedHalf mode unmaskedUE false (rootOf (units a) (2 ^ 24))
+normal-root mode unmaskedUE a na s =
+    finite-root a (rw (normal-finite a na, s, normal-zero a na)) mode unmaskedUE ∙ rw (no-denormal a na)
+    (plain (roundedHalf mode unmaskedUE false (rootOf (units a) (2 ^ 24))))
 
 module _ (mode : Mode) (unmaskedUE : Bool) (a b : ℕ) (na : isNormal a ≡ true) (nb : isNormal b ≡ true) where
   pub normal-add : halfAdd mode unmaskedUE a b ≡ exactSum mode unmaskedUE (negative a) (units a) (negative b) (units b) (2 ^ 24)
-  normal-add = finite-add mode unmaskedUE a b (rw (normal-finite a na, normal-finite b nb)) ∙ rw (no-denormal a na, no-denormal b nb) (plain (exactSum mode unmaskedUE (negative a) (units a) (negative b) (units b) (2 ^ 24)))
+  normal-add =
+      finite-add mode unmaskedUE a b (rw (normal-finite a na, normal-finite b nb)) ∙ rw (no-denormal a na, no-denormal b nb)
+      (plain (exactSum mode unmaskedUE (negative a) (units a) (negative b) (units b) (2 ^ 24)))
 
   normal-multiply : halfMultiply mode unmaskedUE a b ≡ roundedHalf mode unmaskedUE (unlike a b) (ratio (units a * units b) (2 ^ 48))
-  normal-multiply = finite-multiply mode unmaskedUE a b (rw (normal-finite a na, normal-finite b nb)) ∙ rw (no-denormal a na, no-denormal b nb) (plain (roundedHalf mode unmaskedUE (unlike a b) (ratio (units a * units b) (2 ^ 48))))
+  normal-multiply =
+      finite-multiply mode unmaskedUE a b (rw (normal-finite a na, normal-finite b nb)) ∙ rw (no-denormal a na, no-denormal b nb)
+      (plain (roundedHalf mode unmaskedUE (unlike a b) (ratio (units a * units b) (2 ^ 48))))
 
   pub normal-divide : halfDivide mode unmaskedUE a b ≡ roundedHalf mode unmaskedUE (unlike a b) (ratio (units a) (units b))
-  normal-divide = finite-divide mode unmaskedUE a b (rw (normal-finite a na, normal-finite b nb, normal-zero b nb)) ∙ rw (no-denormal a na, no-denormal b nb) (plain (roundedHalf mode unmaskedUE (unlike a b) (ratio (units a) (units b))))
+  normal-divide =
+      finite-divide mode unmaskedUE a b (rw (normal-finite a na, normal-finite b nb, normal-zero b nb)) ∙ rw
+      (no-denormal a na, no-denormal b nb) (plain (roundedHalf mode unmaskedUE (unlike a b) (ratio (units a) (units b))))
 
-  pub normal-multiply-add : (c : ℕ) → isNormal c ≡ true → halfMultiplyAdd mode unmaskedUE a b c ≡ exactSum mode unmaskedUE (unlike a b) (units a * units b) (negative c) (units c * 2 ^ 24) (2 ^ 48)
+  pub normal-multiply-add : (c : ℕ) → isNormal c ≡ true
+      → halfMultiplyAdd mode unmaskedUE a b c
+      ≡ exactSum mode unmaskedUE (unlike a b) (units a * units b) (negative c) (units c * 2 ^ 24) (2 ^ 48)
   normal-multiply-add c nc =
       finite-multiply-add mode unmaskedUE a b c (rw (normal-finite a na, normal-finite b nb, normal-finite c nc))
-      ∙ rw (no-denormal a na, no-denormal b nb, no-denormal c nc) (plain (exactSum mode unmaskedUE (unlike a b) (units a * units b) (negative c) (units c * 2 ^ 24) (2 ^ 48)))
+      ∙ rw (no-denormal a na, no-denormal b nb, no-denormal c nc)
+      (plain (exactSum mode unmaskedUE (unlike a b) (units a * units b) (negative c) (units c * 2 ^ 24) (2 ^ 48)))
 
 -- ---- products
 pub product-digits : (x y : ℕ) → 1024 ≤ x → x < 2048 → 1024 ≤ y → y < 2048 → (2 ^ 20 ≤ x * y) × (x * y < 2 ^ 22)
@@ -108,12 +123,18 @@ product-digits x y xl xh yl yh =
     (omega arith, omega arith)
 
 -- in units of 2 ^ -57
-pub product-units : (a b : ℕ) → isNormal a ≡ true → isNormal b ≡ true → {p i j : ℕ} → p ≡ significand a * significand b → i ≡ exponentField a → j ≡ exponentField b → p * 2 ^ (i + j + 7) ≡ units a * units b * 2 ^ 9
+pub product-units : (a b : ℕ) → isNormal a ≡ true → isNormal b ≡ true → {p i j : ℕ} → p ≡ significand a * significand b
+    → i ≡ exponentField a → j ≡ exponentField b → p * 2 ^ (i + j + 7) ≡ units a * units b * 2 ^ 9
 product-units a b na nb {p} {i} {j} hp hi hj =
     let L : ℕ = lift a + lift b in
-    sym (pow-join p L 9 (let f : L + 9 ≡ i + j + 7 = omega (arith, normal-ge a na, normal-ge b nb) in f)) ∙ ap (λ (m : ℕ). m * 2 ^ L * 2 ^ 9) hp ∙ ap (λ (m : ℕ). m * 2 ^ 9) (sym (joined a b refl refl))
+    sym (pow-join p L 9 (let f : L + 9 ≡ i + j + 7 = omega (arith, normal-ge a na, normal-ge b nb) in f))
+    ∙ ap (λ (m : ℕ). m * 2 ^ L * 2 ^ 9) hp ∙ ap (λ (m : ℕ). m * 2 ^ 9) (sym (joined a b refl refl))
 
-pub product-rounds : (mode : Mode) (unmaskedUE : Bool) (a b : ℕ) → isNormal a ≡ true → isNormal b ≡ true → {p i j : ℕ} {neg : Bool} {o : Outcome} → p ≡ significand a * significand b → i ≡ exponentField a → j ≡ exponentField b → neg ≡ unlike a b
+pub product-rounds : (mode : Mode) (unmaskedUE : Bool) (a b : ℕ) → isNormal a ≡ true → isNormal b ≡ true
+    → {p i j : ℕ} {neg : Bool} {o : Outcome} → p ≡ significand a * significand b → i ≡ exponentField a → j ≡ exponentField b
+    → neg ≡ unlike a b
     → o ≡ roundedHalf mode unmaskedUE neg (ratio (p * 2 ^ (i + j + 7)) (2 ^ 57)) → o ≡ halfMultiply mode unmaskedUE a b
 product-rounds mode unmaskedUE a b na nb hp hi hj hn h =
-    h ∙ rw (hn, product-units a b na nb hp hi hj) (rounded-scale mode unmaskedUE (unlike a b) (units a * units b) (2 ^ 48) (2 ^ 9) (omega arith) (omega arith) ∙ sym (normal-multiply mode unmaskedUE a b na nb))
+    h ∙ rw (hn, product-units a b na nb hp hi hj)
+    (rounded-scale mode unmaskedUE (unlike a b) (units a * units b) (2 ^ 48) (2 ^ 9) (omega arith) (omega arith)
+    ∙ sym (normal-multiply mode unmaskedUE a b na nb))

@@ -3,7 +3,10 @@ use Prim.Native.Nat.{ℕ, zero, suc, _+_, _-_, _*_, _/_, _%_, _^_, _≤_, _<_, c
 use mathlib.Core.Bool.{Bool, true, false}
 use mathlib.Core.Path.{_≡_, refl, sym, ap, _∙_}
 use native.Mathlib.Omega.{arith}
-use native.Mathlib.Nat.{div-one, mod-one, mod-eq-of-lt, pow-succ', add-zero, mul-pos, mul-div-mul-right, mul-div-cancel, mul-mod-left, div-div-eq-div-mul, mod-lt, div-add-mod', mul-comm, mul-assoc, le-antisymm, le-of-lt, le-of-eq, le-trans, lt-of-lt-of-le, le-of-suc-le-suc, lt-of-not-le, not-le-of-lt, div-lt-iff-lt-mul, le-div-iff-mul-le, div-eq-of-lt, mul-le-mul}
+use native.Mathlib.Nat.{div-one, mod-one, mod-eq-of-lt, pow-succ', add-zero, mul-pos, mul-div-mul-right, mul-div-cancel, mul-mod-left}
+use native.Mathlib.Nat.{div-div-eq-div-mul, mod-lt, div-add-mod', mul-comm, mul-assoc, le-antisymm, le-of-lt, le-of-eq, le-trans}
+use native.Mathlib.Nat.{lt-of-lt-of-le, le-of-suc-le-suc, lt-of-not-le, not-le-of-lt, div-lt-iff-lt-mul, le-div-iff-mul-le, div-eq-of-lt}
+use native.Mathlib.Nat.{mul-le-mul}
 use lib.Dec.{leb}
 use lib.Arith.{mod-mul, digits-div, digits-mod}
 use lib.Pow.{pow-pos, pow-mono, pow-add, split}
@@ -58,8 +61,10 @@ size-shift n j = go (leb (size n) j) refl
         let l : j < size n = leb-false _ _ e in
         let s : ℕ = size n - suc j in
         let a : 2 ^ s * 2 ^ j ≤ n = le-trans (le-of-eq (sym (pow-add 2 s j))) (size-reaches n (s + j) (omega arith)) in
-        let b : n < 2 ^ suc s * 2 ^ j = lt-of-lt-of-le (size-lt n) (le-trans (pow-mono {i = size n} {j = suc s + j} (omega arith)) (le-of-eq (pow-add 2 (suc s) j))) in
-        size-is (n / 2 ^ j) s (le-div-iff-mul-le (pow-pos j) .1 a) (div-lt-iff-lt-mul (pow-pos j) .1 b) ∙ (let f : suc s ≡ size n - j = omega arith in f)
+        let b : n < 2 ^ suc s * 2 ^ j = lt-of-lt-of-le (size-lt n)
+        (le-trans (pow-mono {i = size n} {j = suc s + j} (omega arith)) (le-of-eq (pow-add 2 (suc s) j))) in
+        size-is (n / 2 ^ j) s (le-div-iff-mul-le (pow-pos j) .1 a) (div-lt-iff-lt-mul (pow-pos j) .1 b)
+        ∙ (let f : suc s ≡ size n - j = omega arith in f)
 
 pub size-large : (n j : ℕ) → 2 ^ j ≤ n → suc j ≤ size n
 size-large n j h = lt-of-not-le (λ (g : size n ≤ j). not-le-of-lt (lt-of-lt-of-le (size-lt n) (pow-mono g)) h)
@@ -88,7 +93,8 @@ place-place n d c hd hc =
     let b : ℕ = more (n % d) in
     let lo : 2 * (q % c) + b < 2 * c = let l : q % c < c = mod-lt q hc in omega arith in
     let e : 2 * q + b ≡ q / c * (2 * c) + (2 * (q % c) + b) = let s : q / c * c + q % c ≡ q = div-add-mod' q c in omega arith in
-    let dv : (2 * q + b) / (2 * c) ≡ n / (c * d) = ap (λ (x : ℕ). x / (2 * c)) e ∙ digits-div (q / c) lo ∙ div-div-eq-div-mul n d c ∙ ap (λ (x : ℕ). n / x) (mul-comm d c) in
+    let dv : (2 * q + b) / (2 * c) ≡ n / (c * d) =
+    ap (λ (x : ℕ). x / (2 * c)) e ∙ digits-div (q / c) lo ∙ div-div-eq-div-mul n d c ∙ ap (λ (x : ℕ). n / x) (mul-comm d c) in
     let md : (2 * q + b) % (2 * c) ≡ 2 * (q % c) + b = ap (λ (x : ℕ). x % (2 * c)) e ∙ digits-mod (q / c) lo in
     rw (dv, md, mod-mul n {m = c} {c = d} hc hd, more-join (q % c) d (n % d) hd)
 

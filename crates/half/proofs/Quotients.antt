@@ -61,32 +61,44 @@ module _ (a b : ℕ) {x y : ℕ} (hx : x ≡ beside a b) (hy : y ≡ beside b a)
   one-small = go (leb (lift a) (lift b)) refl
     where
       go : (t : Bool) → leb (lift a) (lift b) ≡ t → min x y < 2 ^ 11
-      go true e = let l : lift a ≤ lift b = leb-true _ _ e in let f : x ≡ significand a = hx ∙ sym (not-raised a b refl refl refl l) in omega (arith, significand-lt a)
-      go false e = let l : lift b < lift a = leb-false _ _ e in let f : y ≡ significand b = hy ∙ sym (not-raised b a refl refl refl (omega arith)) in omega (arith, significand-lt b)
+      go true e =
+          let l : lift a ≤ lift b = leb-true _ _ e in let f : x ≡ significand a = hx ∙ sym (not-raised a b refl refl refl l) in omega
+          (arith, significand-lt a)
+      go false e =
+          let l : lift b < lift a = leb-false _ _ e in let f : y ≡ significand b = hy ∙ sym (not-raised b a refl refl refl (omega arith))
+          in omega (arith, significand-lt b)
 
-  pub quotient-units : (mode : Mode) (unmaskedUE neg : Bool) → isZero b ≡ false → {o : Outcome} → o ≡ roundedHalf mode unmaskedUE neg (ratio x y) → o ≡ roundedHalf mode unmaskedUE neg (ratio (units a) (units b))
+  pub quotient-units : (mode : Mode) (unmaskedUE neg : Bool) → isZero b ≡ false → {o : Outcome}
+      → o ≡ roundedHalf mode unmaskedUE neg (ratio x y) → o ≡ roundedHalf mode unmaskedUE neg (ratio (units a) (units b))
   quotient-units mode unmaskedUE neg z h =
       let c : ℕ = min (lift a) (lift b) in
       h ∙ sym (rounded-scale mode unmaskedUE neg x y (2 ^ c) (divisor-pos z) (pow-pos c))
       ∙ rw (hx, hy, in-units a b c refl, in-units b a c (omega arith))
 
 -- ---- normal operands: t has 22 or 23 digits
-module _ (a b : ℕ) (na : isNormal a ≡ true) (nb : isNormal b ≡ true) {x y t : ℕ} (hx : (x ≡ significand a) × (1024 ≤ x) × (x < 2048)) (hy : (y ≡ significand b) × (1024 ≤ y) × (y < 2048)) (ht : t ≡ place (x * 2 ^ 21) y) where
+module _ (a b : ℕ) (na : isNormal a ≡ true) (nb : isNormal b ≡ true) {x y t : ℕ} (hx : (x ≡ significand a) × (1024 ≤ x) × (x < 2048))
+    (hy : (y ≡ significand b) × (1024 ≤ y) × (y < 2048)) (ht : t ≡ place (x * 2 ^ 21) y) where
   y-pos : 0 < y
   y-pos = omega (arith, hy .1)
 
   pub quotient-ge : 2 ^ 21 ≤ t
   quotient-ge = rw ht (place-ge (x * 2 ^ 21) y (2 ^ 20) y-pos (omega (arith, hx .1, hy .2)))
 
-  pub quotient-rounds : (mode : Mode) (unmaskedUE : Bool) {i j : ℕ} {neg : Bool} {o : Outcome} → i ≡ exponentField a → j ≡ exponentField b → neg ≡ unlike a b
+  pub quotient-rounds : (mode : Mode) (unmaskedUE : Bool) {i j : ℕ} {neg : Bool} {o : Outcome} → i ≡ exponentField a → j ≡ exponentField b
+      → neg ≡ unlike a b
       → o ≡ roundedHalf mode unmaskedUE neg (ratio (t * 2 ^ (i + 35 - j)) (2 ^ 57)) → o ≡ halfDivide mode unmaskedUE a b
   unfolding units
   quotient-rounds mode unmaskedUE {i} {j} {neg} hi hj hn h =
       let e : ℕ = i + 35 - j in
       let c : ℕ = 56 - lift b in
       let n : x * 2 ^ 21 * 2 ^ e ≡ x * 2 ^ lift a * 2 ^ c =
-      pow-join x 21 e refl ∙ sym (pow-join x (lift a) c (let f : lift a + c ≡ 21 + e = omega (arith, normal-ge a na, normal-ge b nb, normal-lt b nb) in f)) in
-      let d : y * 2 ^ 56 ≡ y * 2 ^ lift b * 2 ^ c = sym (pow-join y (lift b) c (let f : lift b + c ≡ 56 = omega (arith, normal-lt b nb) in f)) in
-      let s : roundedHalf mode unmaskedUE neg (ratio (x * 2 ^ 21 * 2 ^ e) (y * 2 ^ 56)) ≡ roundedHalf mode unmaskedUE neg (ratio (x * 2 ^ lift a) (y * 2 ^ lift b)) =
-      rw (n, d) (rounded-scale mode unmaskedUE neg (x * 2 ^ lift a) (y * 2 ^ lift b) (2 ^ c) (mul-pos y-pos (pow-pos (lift b))) (pow-pos c)) in
-      h ∙ sym (digits mode unmaskedUE neg (x * 2 ^ 21) y t y-pos ht (omega (arith, quotient-ge)) e 56) ∙ s ∙ rw (hx .0, hy .0, hn) (sym (normal-divide mode unmaskedUE a b na nb))
+      pow-join x 21 e refl ∙ sym (pow-join x (lift a) c
+      (let f : lift a + c ≡ 21 + e = omega (arith, normal-ge a na, normal-ge b nb, normal-lt b nb) in f)) in
+      let d : y * 2 ^ 56 ≡ y * 2 ^ lift b * 2 ^ c =
+      sym (pow-join y (lift b) c (let f : lift b + c ≡ 56 = omega (arith, normal-lt b nb) in f)) in
+      let s : roundedHalf mode unmaskedUE neg (ratio (x * 2 ^ 21 * 2 ^ e) (y * 2 ^ 56)) ≡ roundedHalf mode unmaskedUE neg
+      (ratio (x * 2 ^ lift a) (y * 2 ^ lift b)) =
+      rw (n, d) (rounded-scale mode unmaskedUE neg (x * 2 ^ lift a) (y * 2 ^ lift b) (2 ^ c) (mul-pos y-pos (pow-pos (lift b)))
+      (pow-pos c)) in
+      h ∙ sym (digits mode unmaskedUE neg (x * 2 ^ 21) y t y-pos ht (omega (arith, quotient-ge)) e 56) ∙ s ∙ rw (hx .0, hy .0, hn)
+      (sym (normal-divide mode unmaskedUE a b na nb))

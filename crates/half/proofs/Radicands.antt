@@ -26,7 +26,8 @@ root-placed : (n : ℕ) → n < 2 ^ 40 → Placed (rootOf n (2 ^ 24)) (rootPlace
 unfolding against
 root-placed n h c =
     let e : n * (2 ^ 26 * 2 ^ 26) ≡ n * 2 ^ 28 * 2 ^ 24 = sym (mul-assoc n (2 ^ 28) (2 ^ 24)) in
-    ap (λ (y : ℕ). compare y (c * c * 2 ^ 24)) e ∙ cmp-scale (n * 2 ^ 28) (c * c) (2 ^ 24) (omega arith) ∙ root-cut 34 (n * 2 ^ 28) c (omega arith)
+    ap (λ (y : ℕ). compare y (c * c * 2 ^ 24)) e ∙ cmp-scale (n * 2 ^ 28) (c * c) (2 ^ 24) (omega arith) ∙ root-cut 34 (n * 2 ^ 28) c
+    (omega arith)
 
 -- n / 2 ^ 24 is N * 2 ^ (2 k - 50), and z the place of N's root
 pub record Radicand (n N k z : ℕ) : Type 0 where
@@ -40,13 +41,18 @@ module _ {n N k z : ℕ} (r : Radicand n N k z) where
   pub root-digits : (2 ^ 12 ≤ z) × (z < 2 ^ 13)
   root-digits = (rw (r .z-is) (root-large 12 N (r .N-from) (omega (arith, r .N-to))), root-place-lt 12 N (r .N-to) (r .z-is))
 
-  sticky-root : (mode : Mode) (unmaskedUE neg : Bool) → roundedHalf mode unmaskedUE neg (rootOf n (2 ^ 24)) ≡ roundedHalf mode unmaskedUE neg (ratio (z * 2 ^ (k + 1)) (2 ^ 27))
+  sticky-root : (mode : Mode) (unmaskedUE neg : Bool)
+      → roundedHalf mode unmaskedUE neg (rootOf n (2 ^ 24)) ≡ roundedHalf mode unmaskedUE neg (ratio (z * 2 ^ (k + 1)) (2 ^ 27))
   sticky-root mode unmaskedUE neg =
       let c : rootPlace 12 N ≡ place (rootPlace 34 (n * 2 ^ 28)) (2 * 2 ^ (k + 1)) =
-      sym (rw (r .square) (root-place-cut 34 12 N (2 ^ (k + 1)) (pow-pos (k + 1)) (rw (← (r .square)) (omega (arith, r .n-lt))) (omega (arith, r .N-to)))) in
-      sticky-wide z (k + 1) (rootPlace 34 (n * 2 ^ 28)) (omega arith) (r .z-is ∙ c) (root-digits .0) mode unmaskedUE neg (rootOf n (2 ^ 24)) (omega arith) (root-placed n (r .n-lt))
+      sym (rw (r .square) (root-place-cut 34 12 N (2 ^ (k + 1)) (pow-pos (k + 1)) (rw (← (r .square)) (omega (arith, r .n-lt)))
+      (omega (arith, r .N-to)))) in
+      sticky-wide z (k + 1) (rootPlace 34 (n * 2 ^ 28)) (omega arith) (r .z-is ∙ c) (root-digits .0) mode unmaskedUE neg
+      (rootOf n (2 ^ 24)) (omega arith) (root-placed n (r .n-lt))
 
-  pub root-rounds : (mode : Mode) (neg : Bool) {o : Outcome} → ((unmaskedUE : Bool) → o ≡ roundedHalf mode unmaskedUE neg (ratio (z * 2 ^ k) (2 ^ 26))) → (unmaskedUE : Bool) → o ≡ roundedHalf mode unmaskedUE neg (rootOf n (2 ^ 24))
+  pub root-rounds : (mode : Mode) (neg : Bool) {o : Outcome}
+      → ((unmaskedUE : Bool) → o ≡ roundedHalf mode unmaskedUE neg (ratio (z * 2 ^ k) (2 ^ 26))) → (unmaskedUE : Bool)
+      → o ≡ roundedHalf mode unmaskedUE neg (rootOf n (2 ^ 24))
   root-rounds mode neg h unmaskedUE =
       h unmaskedUE ∙ sym (rounded-scale mode unmaskedUE neg (z * 2 ^ k) (2 ^ 26) 2 (omega arith) (omega arith))
       ∙ ap (λ (m : ℕ). roundedHalf mode unmaskedUE neg (ratio m (2 ^ 27))) (pow-join z k 1 refl)
@@ -69,7 +75,8 @@ module _ (a x j : ℕ) (hx : x ≡ units a) (hf : isFinite a ≡ true) (hz : isZ
   pub radicand-lt : x * 2 ^ 22 % 2 ^ 64 / 2 ^ (2 * j) < 2 ^ 24
   radicand-lt = rw shl-x (N-lt a x j hx above-zero hj)
 
-  pub finite-radicand : {z : ℕ} → z ≡ rootPlace 12 (x * 2 ^ 22 % 2 ^ 64 / 2 ^ (2 * j)) → Radicand (units a) (x * 2 ^ 22 / 2 ^ (2 * j)) (j + 2) z
+  pub finite-radicand : {z : ℕ} → z ≡ rootPlace 12 (x * 2 ^ 22 % 2 ^ 64 / 2 ^ (2 * j))
+      → Radicand (units a) (x * 2 ^ 22 / 2 ^ (2 * j)) (j + 2) z
   finite-radicand h =
       record {
         n-lt = finite-lt a hf;
@@ -82,11 +89,15 @@ module _ (a x j : ℕ) (hx : x ≡ units a) (hf : isFinite a ≡ true) (hz : isZ
 -- ---- and of a normal half above 0, by its exponent field
 module _ (a : ℕ) (na : isNormal a ≡ true) {s e : ℕ} (hs : (s ≡ significand a) × (1024 ≤ s) × (s < 2048)) (he : e ≡ exponentField a) where
   N-from-is : 2 ^ 22 ≤ s * 2 ^ (13 - e % 2)
-  N-from-is = mul-le-mul {n₁ = 2 ^ 10} {m₁ = 2 ^ 12} {n₂ = s} {m₂ = 2 ^ (13 - e % 2)} (omega (arith, hs .1)) (pow-mono {i = 12} {j = 13 - e % 2} (omega arith))
+  N-from-is =
+      mul-le-mul {n₁ = 2 ^ 10} {m₁ = 2 ^ 12} {n₂ = s} {m₂ = 2 ^ (13 - e % 2)} (omega (arith, hs .1))
+      (pow-mono {i = 12} {j = 13 - e % 2} (omega arith))
 
   N-to-is : s * 2 ^ (13 - e % 2) < 2 ^ 24
   N-to-is =
-      let l : s * 2 ^ (13 - e % 2) ≤ 2047 * 2 ^ 13 = mul-le-mul {n₁ = s} {m₁ = 2 ^ (13 - e % 2)} {n₂ = 2047} {m₂ = 2 ^ 13} (omega (arith, hs .2)) (pow-mono {i = 13 - e % 2} {j = 13} (omega arith)) in
+      let l : s * 2 ^ (13 - e % 2) ≤ 2047 * 2 ^ 13 =
+      mul-le-mul {n₁ = s} {m₁ = 2 ^ (13 - e % 2)} {n₂ = 2047} {m₂ = 2 ^ 13} (omega (arith, hs .2))
+      (pow-mono {i = 13 - e % 2} {j = 13} (omega arith)) in
       omega arith
 
   shl-s : s * 2 ^ (13 - e % 2) % 2 ^ 64 ≡ s * 2 ^ (13 - e % 2)
@@ -101,9 +112,11 @@ module _ (a : ℕ) (na : isNormal a ≡ true) {s e : ℕ} (hs : (s ≡ significa
       let i : ℕ = 13 - e % 2 in
       let k : ℕ = (e + 13) / 2 + 1 in
       let f : lift a + 28 ≡ i + (k + k) = omega (arith, normal-ge a na) in
-      ap (λ (m : ℕ). m * 2 ^ lift a * 2 ^ 28) (sym (hs .0)) ∙ pow-join s (lift a) 28 f ∙ sym (pow-join s i (k + k) refl) ∙ ap (λ (m : ℕ). s * 2 ^ i * m) (pow-add 2 k k)
+      ap (λ (m : ℕ). m * 2 ^ lift a * 2 ^ 28) (sym (hs .0)) ∙ pow-join s (lift a) 28 f ∙ sym (pow-join s i (k + k) refl)
+      ∙ ap (λ (m : ℕ). s * 2 ^ i * m) (pow-add 2 k k)
 
-  pub normal-radicand : {z : ℕ} → z ≡ rootPlace 12 (s * 2 ^ (13 - e % 2) % 2 ^ 64) → Radicand (units a) (s * 2 ^ (13 - e % 2)) ((e + 13) / 2) z
+  pub normal-radicand : {z : ℕ} → z ≡ rootPlace 12 (s * 2 ^ (13 - e % 2) % 2 ^ 64)
+      → Radicand (units a) (s * 2 ^ (13 - e % 2)) ((e + 13) / 2) z
   normal-radicand h =
       record {
         n-lt = finite-lt a (normal-finite a na);

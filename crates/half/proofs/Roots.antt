@@ -3,7 +3,10 @@ use Prim.Native.Nat.{ℕ, zero, suc, _+_, _-_, _*_, _/_, _%_, _^_, _≤_, _<_, c
 use mathlib.Core.Bool.{Bool, true, false, cond}
 use mathlib.Core.Path.{_≡_, refl, sym, ap, _∙_, subst}
 use native.Mathlib.Omega.{arith}
-use native.Mathlib.Nat.{sub-self, mul-mod-left, le-of-sub-eq-zero, sub-eq-zero-of-le, mul-pos, div-add-mod', mod-lt, le-antisymm, lt-of-not-le, not-le-of-lt, lt-of-lt-of-le, lt-of-le-of-lt, le-of-lt, le-trans, le-of-eq, mul-le-mul, le-of-mul-le-mul-right, lt-of-mul-lt-mul-right, mul-mul-mul-comm, pow-succ', le-of-suc-le-suc, mul-assoc, mul-div-cancel, le-div-iff-mul-le, div-lt-iff-lt-mul, mul-comm, add-comm}
+use native.Mathlib.Nat.{sub-self, mul-mod-left, le-of-sub-eq-zero, sub-eq-zero-of-le, mul-pos, div-add-mod', mod-lt, le-antisymm}
+use native.Mathlib.Nat.{lt-of-not-le, not-le-of-lt, lt-of-lt-of-le, lt-of-le-of-lt, le-of-lt, le-trans, le-of-eq, mul-le-mul}
+use native.Mathlib.Nat.{le-of-mul-le-mul-right, lt-of-mul-lt-mul-right, mul-mul-mul-comm, pow-succ', le-of-suc-le-suc, mul-assoc}
+use native.Mathlib.Nat.{mul-div-cancel, le-div-iff-mul-le, div-lt-iff-lt-mul, mul-comm, add-comm}
 use lib.Dec.{leb}
 use lib.Arith.{digits-div, digits-mod}
 use lib.Pow.{shl-lt, pow-add, pow-mono, pow-pos}
@@ -26,8 +29,11 @@ unfolding rootFrom
 root-is zero n s lo hi = (lo, hi)
 root-is (suc k) n s lo hi = go (leb ((s + 2 ^ k) * (s + 2 ^ k)) n) refl (root-is k n)
   where
-    go : (b : Bool) → leb ((s + 2 ^ k) * (s + 2 ^ k)) n ≡ b → ((r : ℕ) → r * r ≤ n → n < (r + 2 ^ k) * (r + 2 ^ k) → Root n (rootFrom k n r)) → Root n (rootFrom k n (cond b (s + 2 ^ k) s))
-    go true e ih = ih (s + 2 ^ k) (leb-true _ _ e) (subst (λ (x : ℕ). n < x * x) (let p : 2 ^ suc k ≡ 2 * 2 ^ k = pow-succ' 2 k in let q : s + 2 ^ suc k ≡ s + 2 ^ k + 2 ^ k = omega arith in q) hi)
+    go : (b : Bool) → leb ((s + 2 ^ k) * (s + 2 ^ k)) n ≡ b
+        → ((r : ℕ) → r * r ≤ n → n < (r + 2 ^ k) * (r + 2 ^ k) → Root n (rootFrom k n r)) → Root n (rootFrom k n (cond b (s + 2 ^ k) s))
+    go true e ih =
+        ih (s + 2 ^ k) (leb-true _ _ e) (subst (λ (x : ℕ). n < x * x)
+        (let p : 2 ^ suc k ≡ 2 * 2 ^ k = pow-succ' 2 k in let q : s + 2 ^ suc k ≡ s + 2 ^ k + 2 ^ k = omega arith in q) hi)
     go false e ih = ih s lo (leb-false _ _ e)
 
 pub root-of : (k n : ℕ) → n < 2 ^ k * 2 ^ k → Root n (rootFrom k n 0)
@@ -48,8 +54,10 @@ module _ (n c R : ℕ) (hc : 0 < c) (h : Root (n * (c * c)) R) where
       let q : ℕ = R / c in
       let e : q * c + R % c ≡ R = div-add-mod' R c in
       let m : R % c < c = mod-lt R hc in
-      let a : q * c * (q * c) ≤ n * (c * c) = le-trans (mul-le-mul {n₁ = q * c} {m₁ = q * c} {n₂ = R} {m₂ = R} (omega arith) (omega arith)) (h .0) in
-      let b : n * (c * c) < (q + 1) * c * ((q + 1) * c) = lt-of-lt-of-le (h .1) (mul-le-mul {n₁ = R + 1} {m₁ = R + 1} {n₂ = (q + 1) * c} {m₂ = (q + 1) * c} (omega arith) (omega arith)) in
+      let a : q * c * (q * c) ≤ n * (c * c) =
+      le-trans (mul-le-mul {n₁ = q * c} {m₁ = q * c} {n₂ = R} {m₂ = R} (omega arith) (omega arith)) (h .0) in
+      let b : n * (c * c) < (q + 1) * c * ((q + 1) * c) =
+      lt-of-lt-of-le (h .1) (mul-le-mul {n₁ = R + 1} {m₁ = R + 1} {n₂ = (q + 1) * c} {m₂ = (q + 1) * c} (omega arith) (omega arith)) in
       let cc' : 0 < c * c = mul-pos hc hc in (
         le-of-mul-le-mul-right {m = q * q} {n = n} {k = c * c} (le-trans (le-of-eq (mul-mul-mul-comm q q c c)) a) cc',
         lt-of-mul-lt-mul-right (c * c) {m = n} {n = (q + 1) * (q + 1)} (lt-of-lt-of-le b (le-of-eq (mul-mul-mul-comm (q + 1) c (q + 1) c))),
@@ -68,8 +76,11 @@ module _ (n c R : ℕ) (hc : 0 < c) (h : Root (n * (c * c)) R) where
       let q : ℕ = R / c in
       let e : n ≡ q * q = le-antisymm (le-of-sub-eq-zero z) (cut .0) in
       let f : n * (c * c) ≡ q * c * (q * c) = ap (λ (x : ℕ). x * (c * c)) e ∙ mul-mul-mul-comm q q c c in
-      let g : R ≡ q * c = root-one (n * (c * c)) R (q * c) h (le-of-eq (sym f), lt-of-le-of-lt (le-of-eq f) (omega arith)) in
-      (ap (λ (x : ℕ). x % c) g ∙ mul-mod-left q c, ap (λ (x : ℕ). n * (c * c) - x * x) g ∙ ap (λ (x : ℕ). x - q * c * (q * c)) f ∙ sub-self (q * c * (q * c)))
+      let g : R ≡ q * c = root-one (n * (c * c)) R (q * c) h (le-of-eq (sym f), lt-of-le-of-lt (le-of-eq f) (omega arith)) in (
+        ap (λ (x : ℕ). x % c) g ∙ mul-mod-left q c,
+        ap (λ (x : ℕ). n * (c * c) - x * x) g ∙ ap (λ (x : ℕ). x - q * c * (q * c)) f ∙ sub-self
+            (q * c * (q * c)),
+      )
 
 -- equal where both are 0 or neither is
 more-iff : (a b : ℕ) → (a ≡ 0 → b ≡ 0) → (b ≡ 0 → a ≡ 0) → more a ≡ more b
@@ -78,7 +89,8 @@ more-iff (suc a) zero f g = absurd (let z : suc a ≡ 0 = g refl in omega arith)
 more-iff (suc a) (suc b) f g = omega arith
 
 -- the place of a root in units that are c times as large
-pub root-place-cut : (K k n c : ℕ) → 0 < c → n * (c * c) < 2 ^ K * 2 ^ K → n < 2 ^ k * 2 ^ k → place (rootPlace K (n * (c * c))) (2 * c) ≡ rootPlace k n
+pub root-place-cut : (K k n c : ℕ) → 0 < c → n * (c * c) < 2 ^ K * 2 ^ K → n < 2 ^ k * 2 ^ k
+    → place (rootPlace K (n * (c * c))) (2 * c) ≡ rootPlace k n
 unfolding place rootPlace
 root-place-cut K k n c hc hK hk =
     let R : ℕ = rootFrom K (n * (c * c)) 0 in
@@ -92,7 +104,8 @@ root-place-cut K k n c hc hK hk =
     let m : more (2 * (R % c) + b) ≡ more (n - R / c * (R / c)) =
     more-iff (2 * (R % c) + b) (n - R / c * (R / c))
     (λ (z : 2 * (R % c) + b ≡ 0). exact-down n c R hc h (omega arith) (omega arith))
-    (λ (z : n - R / c * (R / c) ≡ 0). let u = exact-up n c R hc h z in let u0 : R % c ≡ 0 = u .0 in let u1 : n * (c * c) - R * R ≡ 0 = u .1 in omega arith) in
+    (λ (z : n - R / c * (R / c) ≡ 0). let u = exact-up n c R hc h z in let u0 : R % c ≡ 0 = u .0 in let u1 : n * (c * c) - R * R ≡ 0 = u .1
+    in omega arith) in
     rw (dv, md, m, q)
 
 -- the mean of g and n / g is not below the root of n
@@ -119,10 +132,13 @@ mean-above n g hg =
     means x y = go (leb x y) refl
       where
         go : (b : Bool) → leb x y ≡ b → 4 * (x * y) ≤ (x + y) * (x + y)
-        go true e = let l : x ≤ y = leb-true _ _ e in subst (λ (z : ℕ). 4 * (x * z) ≤ (x + z) * (x + z)) (let f : x + (y - x) ≡ y = omega arith in f) (ordered x (y - x))
+        go true e =
+            let l : x ≤ y = leb-true _ _ e in subst (λ (z : ℕ). 4 * (x * z) ≤ (x + z) * (x + z))
+            (let f : x + (y - x) ≡ y = omega arith in f) (ordered x (y - x))
         go false e =
             let l : y < x = leb-false _ _ e in
-            rw (mul-comm x y, add-comm x y) (subst (λ (z : ℕ). 4 * (y * z) ≤ (y + z) * (y + z)) (let f : y + (x - y) ≡ x = omega arith in f) (ordered y (x - y)))
+            rw (mul-comm x y, add-comm x y) (subst (λ (z : ℕ). 4 * (y * z) ≤ (y + z) * (y + z))
+            (let f : y + (x - y) ≡ x = omega arith in f) (ordered y (x - y)))
 
 -- one down: n stays below the square of s + 1
 pub down : (n s : ℕ) → n < s * s → (0 < s) × (n < (s - 1 + 1) * (s - 1 + 1))
@@ -169,10 +185,12 @@ root-cut k N c h = go (compare N (c * c)) (cmp N (c * c))
         let z : N - c * c ≡ 0 = omega arith in
         sym (cmp-eq (2 * rootFrom k N 0 + more (N - rootFrom k N 0 * rootFrom k N 0)) (2 * c) (rw (s, z) (omega arith)))
     go Ordering·gt p =
-        let s : c < rootFrom k N 0 + 1 = lt-of-not-le (λ (g : rootFrom k N 0 + 1 ≤ c). not-le-of-lt (lt-of-lt-of-le (r .1) (mul-le-mul g g)) (le-of-lt p)) in
+        let s : c < rootFrom k N 0 + 1 = lt-of-not-le
+        (λ (g : rootFrom k N 0 + 1 ≤ c). not-le-of-lt (lt-of-lt-of-le (r .1) (mul-le-mul g g)) (le-of-lt p)) in
         sym (cmp-gt (2 * rootFrom k N 0 + more (N - rootFrom k N 0 * rootFrom k N 0)) (2 * c) (inner (leb (rootFrom k N 0) c) refl s))
       where
-        inner : (b : Bool) → leb (rootFrom k N 0) c ≡ b → c < rootFrom k N 0 + 1 → 2 * c < 2 * rootFrom k N 0 + more (N - rootFrom k N 0 * rootFrom k N 0)
+        inner : (b : Bool) → leb (rootFrom k N 0) c ≡ b → c < rootFrom k N 0 + 1
+            → 2 * c < 2 * rootFrom k N 0 + more (N - rootFrom k N 0 * rootFrom k N 0)
         inner true f s =
             let q : rootFrom k N 0 ≡ c = let u : rootFrom k N 0 ≤ c = leb-true _ _ f in omega arith in
             let g : rootFrom k N 0 * rootFrom k N 0 ≡ c * c = ap (λ (y : ℕ). y * y) q in
@@ -185,7 +203,8 @@ unfolding rootPlace
 root-large k n h b =
     let r : ℕ = rootFrom k n 0 in
     let l : 2 ^ 11 ≤ r = le-of-suc-le-suc (lt-of-not-le (λ (g : suc r ≤ 2 ^ 11).
-    not-le-of-lt (lt-of-lt-of-le (root-of k n b .1) (mul-le-mul {n₁ = r + 1} {m₁ = r + 1} {n₂ = 2 ^ 11} {m₂ = 2 ^ 11} (omega arith) (omega arith))) h)) in
+    not-le-of-lt (lt-of-lt-of-le (root-of k n b .1)
+    (mul-le-mul {n₁ = r + 1} {m₁ = r + 1} {n₂ = 2 ^ 11} {m₂ = 2 ^ 11} (omega arith) (omega arith))) h)) in
     omega arith
 
 -- ---- x brought to an N of 23 or 24 digits, of which 2 * j are dropped from x * 2 ^ 22
@@ -200,7 +219,9 @@ module _ (a x j : ℕ) (hx : x ≡ units a) (pos : 0 < x) (hj : j ≡ (size x - 
   high = size-reaches x (2 * j) (omega (arith, some-digits))
 
   low : x < 2 ^ (2 * j) * 4
-  low = lt-of-lt-of-le (size-lt x) (le-trans (pow-mono {i = size x} {j = 2 * j + 2} (omega (arith, some-digits))) (le-of-eq (pow-add 2 (2 * j) 2)))
+  low =
+      lt-of-lt-of-le (size-lt x) (le-trans (pow-mono {i = size x} {j = 2 * j + 2} (omega (arith, some-digits)))
+      (le-of-eq (pow-add 2 (2 * j) 2)))
 
   -- what is dropped is zeros: x is a significand of 11 digits, shifted
   digits : 2 * j ≤ lift a + 22
@@ -213,7 +234,9 @@ module _ (a x j : ℕ) (hx : x ≡ units a) (pos : 0 < x) (hj : j ≡ (size x - 
   unfolding units
   nothing-lost =
       let k : ℕ = lift a + 22 - 2 * j in
-      let e : x * 2 ^ 22 ≡ significand a * 2 ^ k * 2 ^ (2 * j) = ap (λ (n : ℕ). n * 2 ^ 22) hx ∙ pow-join (significand a) (lift a) 22 refl ∙ sym (pow-join (significand a) k (2 * j) (let f : k + 2 * j ≡ lift a + 22 = omega (arith, digits) in f)) in
+      let e : x * 2 ^ 22 ≡ significand a * 2 ^ k * 2 ^ (2 * j) =
+      ap (λ (n : ℕ). n * 2 ^ 22) hx ∙ pow-join (significand a) (lift a) 22 refl
+      ∙ sym (pow-join (significand a) k (2 * j) (let f : k + 2 * j ≡ lift a + 22 = omega (arith, digits) in f)) in
       rw e (ap (λ (n : ℕ). n * 2 ^ (2 * j)) (mul-div-cancel (significand a * 2 ^ k) (pow-pos (2 * j))))
 
   pub N-ge : 2 ^ 22 ≤ N
@@ -224,5 +247,8 @@ module _ (a x j : ℕ) (hx : x ≡ units a) (pos : 0 < x) (hj : j ≡ (size x - 
 
   pub N-square : x * 2 ^ 28 ≡ N * (2 ^ (j + 3) * 2 ^ (j + 3))
   N-square =
-      let e : 2 ^ (j + 3) * 2 ^ (j + 3) ≡ 2 ^ (2 * j) * 64 = sym (pow-add 2 (j + 3) (j + 3)) ∙ ap (λ (n : ℕ). 2 ^ n) (let f : j + 3 + (j + 3) ≡ 2 * j + 6 = omega arith in f) ∙ pow-add 2 (2 * j) 6 in
-      sym (ap (λ (n : ℕ). N * n) e ∙ sym (mul-assoc N (2 ^ (2 * j)) 64) ∙ ap (λ (n : ℕ). n * 64) nothing-lost ∙ (let f : x * 2 ^ 22 * 64 ≡ x * 2 ^ 28 = omega arith in f))
+      let e : 2 ^ (j + 3) * 2 ^ (j + 3) ≡ 2 ^ (2 * j) * 64 =
+      sym (pow-add 2 (j + 3) (j + 3)) ∙ ap (λ (n : ℕ). 2 ^ n) (let f : j + 3 + (j + 3) ≡ 2 * j + 6 = omega arith in f) ∙ pow-add 2 (2 * j)
+      6 in
+      sym (ap (λ (n : ℕ). N * n) e ∙ sym (mul-assoc N (2 ^ (2 * j)) 64) ∙ ap (λ (n : ℕ). n * 64) nothing-lost
+      ∙ (let f : x * 2 ^ 22 * 64 ≡ x * 2 ^ 28 = omega arith in f))

@@ -3,7 +3,8 @@ use Prim.Native.Nat.{ℕ, zero, suc, _+_, _-_, _*_, _%_, _^_, _≤_, _<_}
 use mathlib.Core.Bool.{Bool, true, false, cond}
 use mathlib.Core.Path.{_≡_, refl, sym, ap, _∙_}
 use native.Mathlib.Omega.{arith}
-use native.Mathlib.Nat.{add-zero, sub-zero, sub-self, mul-mul-mul-comm, mul-assoc, mul-le-mul, lt-of-le-of-lt, lt-of-lt-of-le, mod-eq-of-lt, mul-comm, eq-of-mul-eq-mul-right}
+use native.Mathlib.Nat.{add-zero, sub-zero, sub-self, mul-mul-mul-comm, mul-assoc, mul-le-mul, lt-of-le-of-lt, lt-of-lt-of-le, mod-eq-of-lt}
+use native.Mathlib.Nat.{mul-comm, eq-of-mul-eq-mul-right}
 use lib.Dec.{ltb, lit<, T}
 use lib.IntN.{ℤ, pos, negsuc, negℤ, subℕ, natAbs, _+ℤ_, _-ℤ_, +ℤ-assoc, +ℤ-comm, negℤ-+ℤ, +ℤ-idr}
 use lib.Signed.{mag, leZ, nonNeg}
@@ -67,7 +68,8 @@ sub-negative a b h = go (ltb a b) refl h
     go false e f = absurd (let l : a - b < 0 = leb-false 0 (a - b) f in omega arith)
 
 sub-shift : (a b c : ℕ) → subℕ (a + c) (b + c) ≡ subℕ a b
-sub-shift a b c = sym (sub-sum a b c c) ∙ ap (λ (e : ℤ). subℕ a b +ℤ e) (sub-of-ge c c (omega arith) ∙ ap pos (sub-self c)) ∙ +ℤ-idr (subℕ a b)
+sub-shift a b c =
+    sym (sub-sum a b c c) ∙ ap (λ (e : ℤ). subℕ a b +ℤ e) (sub-of-ge c c (omega arith) ∙ ap pos (sub-self c)) ∙ +ℤ-idr (subℕ a b)
 
 pub scale-fits : (h : ℕ) → SFits w32 (scale h)
 scale-fits h = sub-fits (lift h) 24 (omega (arith, lift-le h)) (omega arith)
@@ -115,7 +117,8 @@ up-cast : (e : ℤ) → SFits w32 e → leZ (pos 0) e ≡ true → T (nonNeg e) 
 up-cast (pos n) f h = (tt, fits-natAbs tt f)
 up-cast (negsuc n) f h = absurd (let z : _≡_ {A = ℕ} 0 1 = cc in omega arith)
 
-pub up-cast-at : (e : ℤ) → SFits w32 e → leZ (pos 0) (toZ w32 (ofZ w32 e)) ≡ true → T (nonNeg (toZ w32 (ofZ w32 e))) × Fits w32 (natAbs (toZ w32 (ofZ w32 e)))
+pub up-cast-at : (e : ℤ) → SFits w32 e → leZ (pos 0) (toZ w32 (ofZ w32 e)) ≡ true
+    → T (nonNeg (toZ w32 (ofZ w32 e))) × Fits w32 (natAbs (toZ w32 (ofZ w32 e)))
 up-cast-at e f h = rw (toZ-ofZ f) (up-cast e f (rw (toZ-ofZ f) at h))
 
 -- minus e, for an e below 0
@@ -133,7 +136,8 @@ module _ (e : ℤ) (f : SFits w32 e) (h : mag e < 1000) (l : leZ (pos 0) (toZ w3
   pub minus-fits : SFits w32 (pos 0 -ℤ toZ w32 (ofZ w32 e))
   minus-fits = whole .0
 
-  pub minus-cast : T (nonNeg (toZ w32 (ofZ w32 (pos 0 -ℤ toZ w32 (ofZ w32 e))))) × Fits w32 (natAbs (toZ w32 (ofZ w32 (pos 0 -ℤ toZ w32 (ofZ w32 e)))))
+  pub minus-cast : T (nonNeg (toZ w32 (ofZ w32 (pos 0 -ℤ toZ w32 (ofZ w32 e))))) × Fits w32
+      (natAbs (toZ w32 (ofZ w32 (pos 0 -ℤ toZ w32 (ofZ w32 e)))))
   minus-cast = rw (toZ-ofZ minus-fits) (whole .1, whole .2)
 
   pub minus-is : natAbs (toZ w32 (ofZ w32 (pos 0 -ℤ toZ w32 (ofZ w32 e)))) ≡ natAbs e
@@ -142,7 +146,9 @@ module _ (e : ℤ) (f : SFits w32 e) (h : mag e < 1000) (l : leZ (pos 0) (toZ w3
 -- ---- products, as the code works them out: x and y are the significands, e the signed scale
 module _ (a b : ℕ) {x y : ℕ} (hx : x ≡ significand a) (hy : y ≡ significand b) where
   pub product-lt : x * y < 2 ^ 22
-  product-lt = lt-of-le-of-lt (mul-le-mul {n₁ = x} {m₁ = y} {n₂ = 2047} {m₂ = 2047} (omega (arith, significand-lt a)) (omega (arith, significand-lt b))) (lit< tt)
+  product-lt =
+      lt-of-le-of-lt (mul-le-mul {n₁ = x} {m₁ = y} {n₂ = 2047} {m₂ = 2047} (omega (arith, significand-lt a))
+      (omega (arith, significand-lt b))) (lit< tt)
 
   pub joined : units a * units b ≡ x * y * 2 ^ (lift a + lift b)
   unfolding units
@@ -152,13 +158,19 @@ module _ (a b : ℕ) {x y : ℕ} (hx : x ≡ significand a) (hy : y ≡ signific
     e-same : toZ w32 (ofZ w32 e) ≡ subℕ (lift a + lift b) 22
     e-same = rw he (sub-whole (lift a + lift b) 22 (omega (arith, lift-le a, lift-le b)) (omega arith))
 
-    pub raised : leZ (pos 0) (toZ w32 (ofZ w32 e)) ≡ true → Scaled a b (record { significand = x * y; raised = true; by = natAbs (toZ w32 (ofZ w32 e)) })
+    pub raised : leZ (pos 0) (toZ w32 (ofZ w32 e)) ≡ true
+        → Scaled a b (record { significand = x * y; raised = true; by = natAbs (toZ w32 (ofZ w32 e)) })
     raised l =
         let g : 22 ≤ lift a + lift b = sub-nonneg (lift a + lift b) 22 (rw e-same at l) in
         let k : natAbs (toZ w32 (ofZ w32 e)) ≡ lift a + lift b - 22 = rw e-same (distance-up (lift a + lift b) 22 g) in
         record {
           small = product-lt;
-          up = λ _. (omega (arith, lift-le a, lift-le b), joined ∙ ap (λ (n : ℕ). x * y * 2 ^ n) (let f : lift a + lift b ≡ natAbs (toZ w32 (ofZ w32 e)) + 22 = omega arith in f));
+          up =
+              λ _. (
+                omega (arith, lift-le a, lift-le b),
+                joined ∙ ap (λ (n : ℕ). x * y * 2 ^ n)
+                    (let f : lift a + lift b ≡ natAbs (toZ w32 (ofZ w32 e)) + 22 = omega arith in f),
+              );
           down = λ f. absurd (clash f);
         }
 
@@ -204,27 +216,35 @@ module _ {a b : ℕ} {p : Product} (s : Scaled a b p) where
     shl-up = shl-exact {a = 2 * p .significand} 23 (p .by) 64 (omega (arith, s .small)) (omega (arith, s .up r .0))
 
     pub up-lt : 2 * p .significand * 2 ^ p .by % 2 ^ 64 < 2 ^ 61
-    up-lt = rw shl-up (lt-of-lt-of-le (shl-lt {a = 2 * p .significand} 23 (p .by) (omega (arith, s .small))) (pow-mono {i = 23 + p .by} {j = 61} (omega (arith, s .up r .0))))
+    up-lt =
+        rw shl-up (lt-of-lt-of-le (shl-lt {a = 2 * p .significand} 23 (p .by) (omega (arith, s .small)))
+        (pow-mono {i = 23 + p .by} {j = 61} (omega (arith, s .up r .0))))
 
     pub up-units : 2 * p .significand * 2 ^ p .by % 2 ^ 64 * 2 ^ 21 ≡ units a * units b
     up-units = rw (shl-up, s .up r .1, pow-add 2 (p .by) 22) (omega arith)
 
     pub up-place : 2 * p .significand * 2 ^ p .by % 2 ^ 64 ≡ place (units a * units b) (2 ^ 22)
     up-place =
-        sym (ap (λ (n : ℕ). place n (2 ^ 22)) (sym up-units) ∙ place-scale (2 * p .significand * 2 ^ p .by % 2 ^ 64) 2 (2 ^ 21) (omega arith) (omega arith) ∙ place-two (2 * p .significand * 2 ^ p .by % 2 ^ 64))
+        sym (ap (λ (n : ℕ). place n (2 ^ 22)) (sym up-units) ∙ place-scale (2 * p .significand * 2 ^ p .by % 2 ^ 64) 2 (2 ^ 21)
+        (omega arith) (omega arith) ∙ place-two (2 * p .significand * 2 ^ p .by % 2 ^ 64))
 
   module _ (r : p .raised ≡ false) where
     pub down-place : place (p .significand) (2 ^ p .by) ≡ place (units a * units b) (2 ^ 22)
     down-place =
         sym (place-scale (p .significand) (2 ^ p .by) (2 ^ 22) (pow-pos (p .by)) (omega arith))
-        ∙ rw (← (s .down r .2), mul-comm (2 ^ p .by) (2 ^ 22)) (place-scale (units a * units b) (2 ^ 22) (2 ^ p .by) (omega arith) (pow-pos (p .by)))
+        ∙ rw (← (s .down r .2), mul-comm (2 ^ p .by) (2 ^ 22))
+        (place-scale (units a * units b) (2 ^ 22) (2 ^ p .by) (omega arith) (pow-pos (p .by)))
 
     shifted : p .significand * 2 ^ (22 - p .by) ≡ units a * units b
     shifted =
-        let w : 2 ^ 22 ≡ 2 ^ (22 - p .by) * 2 ^ p .by = ap (λ (n : ℕ). 2 ^ n) (let f : 22 ≡ 22 - p .by + p .by = omega (arith, s .down r .1) in f) ∙ pow-add 2 (22 - p .by) (p .by) in
-        eq-of-mul-eq-mul-right (2 ^ p .by) (pow-pos (p .by)) (p .significand * 2 ^ (22 - p .by)) (units a * units b) (mul-assoc (p .significand) (2 ^ (22 - p .by)) (2 ^ p .by) ∙ ap (λ (n : ℕ). p .significand * n) (sym w) ∙ sym (s .down r .2))
+        let w : 2 ^ 22 ≡ 2 ^ (22 - p .by) * 2 ^ p .by =
+        ap (λ (n : ℕ). 2 ^ n) (let f : 22 ≡ 22 - p .by + p .by = omega (arith, s .down r .1) in f) ∙ pow-add 2 (22 - p .by) (p .by) in
+        eq-of-mul-eq-mul-right (2 ^ p .by) (pow-pos (p .by)) (p .significand * 2 ^ (22 - p .by)) (units a * units b)
+        (mul-assoc (p .significand) (2 ^ (22 - p .by)) (2 ^ p .by) ∙ ap (λ (n : ℕ). p .significand * n) (sym w) ∙ sym (s .down r .2))
 
     pub down-units : (p .significand * 2 ^ (22 - p .by) % 2 ^ 64 ≡ units a * units b) × (units a * units b < 2 ^ 44)
     down-units =
-        let w : p .significand * 2 ^ (22 - p .by) < 2 ^ 44 = lt-of-lt-of-le (shl-lt {a = p .significand} 22 (22 - p .by) (s .small)) (pow-mono {i = 22 + (22 - p .by)} {j = 44} (omega (arith, s .down r .0))) in
+        let w : p .significand * 2 ^ (22 - p .by) < 2 ^ 44 =
+        lt-of-lt-of-le (shl-lt {a = p .significand} 22 (22 - p .by) (s .small))
+        (pow-mono {i = 22 + (22 - p .by)} {j = 44} (omega (arith, s .down r .0))) in
         (mod-eq-of-lt (omega arith) ∙ shifted, rw (← shifted) w)

@@ -44,10 +44,12 @@ module _ (mode : Mode) (neg : Bool) (z : ℕ) where
   inwards n o = rw (n, o, quarter mode neg z)
 
   -- c is what is carried in
-  pub carried : {n o : Bool} {c : ℕ} → n ≡ isNearest mode → o ≡ outward mode neg → c ≡ cond n (1 + z / 4 % 2) (cond o 3 0) → (z + c) / 4 ≡ roundTo mode neg (ratio z 4) 1 1
+  pub carried : {n o : Bool} {c : ℕ} → n ≡ isNearest mode → o ≡ outward mode neg → c ≡ cond n (1 + z / 4 % 2) (cond o 3 0)
+      → (z + c) / 4 ≡ roundTo mode neg (ratio z 4) 1 1
   carried {n} {o} {c} hn ho hc = go n o (sym hn) (sym ho) hc
     where
-      go : (n o : Bool) → isNearest mode ≡ n → outward mode neg ≡ o → c ≡ cond n (1 + z / 4 % 2) (cond o 3 0) → (z + c) / 4 ≡ roundTo mode neg (ratio z 4) 1 1
+      go : (n o : Bool) → isNearest mode ≡ n → outward mode neg ≡ o → c ≡ cond n (1 + z / 4 % 2) (cond o 3 0)
+          → (z + c) / 4 ≡ roundTo mode neg (ratio z 4) 1 1
       go true o p q e = rw e (to-nearest p)
       go false true p q e = rw e (outwards p q)
       go false false p q e = let f : z + c ≡ z = omega arith in rw f (inwards p q)
@@ -77,30 +79,39 @@ module _ (mode : Mode) (neg : Bool) (t : ℕ) where
       go false e = sym (le-ltb m 2048 (g (ltb-false _ _ e)))
 
   -- c is what is carried into 2 ^ -14 from the last step below it, which is odd
-  pub tiny-below : {n o : Bool} {c : ℕ} → n ≡ isNearest mode → o ≡ outward mode neg → c ≡ cond n (1 + 1) (cond o 3 0) → (not (eqb t 0) && ltb t (8192 - c)) ≡ tiny mode neg (ratio t (2 ^ 27))
-  tiny-below {n} {o} {c} hn ho hc = rw (pos (eqb t 0) refl, limit n o hc ∙ ap (λ (m : ℕ). ltb m 2048) (carried mode neg t hn ho refl)) (sym at)
+  pub tiny-below : {n o : Bool} {c : ℕ} → n ≡ isNearest mode → o ≡ outward mode neg → c ≡ cond n (1 + 1) (cond o 3 0)
+      → (not (eqb t 0) && ltb t (8192 - c)) ≡ tiny mode neg (ratio t (2 ^ 27))
+  tiny-below {n} {o} {c} hn ho hc =
+      rw (pos (eqb t 0) refl, limit n o hc ∙ ap (λ (m : ℕ). ltb m 2048) (carried mode neg t hn ho refl)) (sym at)
     where
       pos : (b : Bool) → eqb t 0 ≡ b → not b ≡ ltb 0 t
       pos true e = sym (le-ltb 0 t (omega (arith, eqb-true t 0 e)))
       pos false e = sym (lt-ltb 0 t (pos-of-ne-zero (eqb-false t 0 e)))
 
       limit : (n o : Bool) → c ≡ cond n (1 + 1) (cond o 3 0) → ltb t (8192 - c) ≡ ltb ((t + cond n (1 + t / 4 % 2) (cond o 3 0)) / 4) 2048
-      limit true o e = same (8192 - c) ((t + (1 + t / 4 % 2)) / 4) (λ (l : t < 8192 - c). omega arith) (λ (l : 8192 - c ≤ t). over (leb 8192 t) refl (omega arith))
+      limit true o e =
+          same (8192 - c) ((t + (1 + t / 4 % 2)) / 4) (λ (l : t < 8192 - c). omega arith)
+          (λ (l : 8192 - c ≤ t). over (leb 8192 t) refl (omega arith))
         where
           over : (b : Bool) → leb 8192 t ≡ b → 8190 ≤ t → 2048 ≤ (t + (1 + t / 4 % 2)) / 4
           over true g h = omega (arith, leb-true 8192 t g)
-          over false g h = let q : t / 4 ≡ 2047 = omega (arith, leb-false 8192 t g) in let r : t / 4 % 2 ≡ 1 = ap (λ (n : ℕ). n % 2) q in omega arith
+          over false g h =
+              let q : t / 4 ≡ 2047 = omega (arith, leb-false 8192 t g) in let r : t / 4 % 2 ≡ 1 = ap (λ (n : ℕ). n % 2) q in omega arith
       limit false true e = same (8192 - c) ((t + 3) / 4) (λ (l : t < 8192 - c). omega arith) (λ (l : 8192 - c ≤ t). omega arith)
       limit false false e = same (8192 - c) ((t + 0) / 4) (λ (l : t < 8192 - c). omega arith) (λ (l : 8192 - c ≤ t). omega arith)
 
 -- ---- to a half
-module _ (mode : Mode) (unmaskedUE neg : Bool) (t k z q : ℕ) (hk : k ≡ size t - 14) (hz : z ≡ place t (2 ^ (k + 2))) (hq : q ≡ steps mode neg z) where
-  pub over : 31744 ≤ k * 1024 + q → {o : Outcome} → o ≡ result (withSign neg (overflowFields mode neg)) (bitOr OE PE) → o ≡ roundedHalf mode unmaskedUE neg (ratio t (2 ^ 27))
+module _ (mode : Mode) (unmaskedUE neg : Bool) (t k z q : ℕ) (hk : k ≡ size t - 14) (hz : z ≡ place t (2 ^ (k + 2)))
+    (hq : q ≡ steps mode neg z) where
+  pub over : 31744 ≤ k * 1024 + q → {o : Outcome} → o ≡ result (withSign neg (overflowFields mode neg)) (bitOr OE PE)
+      → o ≡ roundedHalf mode unmaskedUE neg (ratio t (2 ^ 27))
   unfolding coarse
   over g ho = ho ∙ sym (of-place mode unmaskedUE neg t ∙ rw (← hk, ← hz, ← hq, le-leb 31744 (k * 1024 + q) g))
 
-  pub fit : k * 1024 + q < 31744 → {b : Bool} {h pe ue : ℕ} → b ≡ tiny mode neg (ratio t (2 ^ 27)) → h ≡ withSign neg (k * 1024 + q) → pe ≡ flag PE (not (eqb (z % 4) 0))
-      → ue ≡ flag UE (b && (unmaskedUE || not (eqb (z % 4) 0))) → result h (bitOr pe ue) ≡ roundedHalf mode unmaskedUE neg (ratio t (2 ^ 27))
+  pub fit : k * 1024 + q < 31744 → {b : Bool} {h pe ue : ℕ} → b ≡ tiny mode neg (ratio t (2 ^ 27)) → h ≡ withSign neg (k * 1024 + q)
+      → pe ≡ flag PE (not (eqb (z % 4) 0))
+      → ue ≡ flag UE (b && (unmaskedUE || not (eqb (z % 4) 0))) → result h (bitOr pe ue) ≡ roundedHalf mode unmaskedUE neg
+      (ratio t (2 ^ 27))
   unfolding coarse
   fit g hb hh hp hu =
       let b : _ = hb ∙ at mode neg t in

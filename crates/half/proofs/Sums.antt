@@ -46,7 +46,8 @@ unfolding exactSum
 sum-rounded mode unmaskedUE sx x sy y d n = go (Bool·beq sx sy) (ltb x y) refl refl n
   where
     go : (l b : Bool) → Bool·beq sx sy ≡ l → ltb x y ≡ b → 0 < cond l (x + y) (cond b (y - x) (x - y))
-        → roundedHalf mode unmaskedUE (cond b sy sx) (ratio (cond l (x + y) (cond b (y - x) (x - y))) d) ≡ exactSum mode unmaskedUE sx x sy y d
+        → roundedHalf mode unmaskedUE (cond b sy sx) (ratio (cond l (x + y) (cond b (y - x) (x - y))) d) ≡ exactSum mode unmaskedUE sx x sy
+        y d
     go true true p q n = rw (p, beq-eq sx sy p)
     go true false p q n = rw p
     go false true p q n = let l : x < y = ltb-true _ _ q in rw (p, le-ltb y x (let g : x ≤ y = omega arith in g), q)
@@ -55,18 +56,21 @@ sum-rounded mode unmaskedUE sx x sy y d n = go (Bool·beq sx sy) (ltb x y) refl 
 -- ---- ± x and ± y, in units of 2 ^ -(k + 26): m is the magnitude of the sum
 module _ (mode : Mode) (unmaskedUE sx : Bool) (x : ℕ) (sy : Bool) (y k : ℕ) {m : ℕ} (hm : m ≡ sumMagnitude (Bool·beq sx sy) x y) where
   -- what t rounds to, if t is the place of n
-  at : (n : ℕ) (s : Bool) {t : ℕ} {o : Outcome} → t ≡ place n (2 ^ k) → o ≡ roundedHalf mode unmaskedUE s (ratio t (2 ^ 27)) → o ≡ roundedHalf mode unmaskedUE s (ratio n (2 ^ (k + 26)))
+  at : (n : ℕ) (s : Bool) {t : ℕ} {o : Outcome} → t ≡ place n (2 ^ k) → o ≡ roundedHalf mode unmaskedUE s (ratio t (2 ^ 27))
+      → o ≡ roundedHalf mode unmaskedUE s (ratio n (2 ^ (k + 26)))
   at n s ht h = h ∙ rw ht (sym (sticky-shift mode unmaskedUE s n k))
 
   nothing : (n : ℕ) → n ≡ 0 → 0 ≡ place n (2 ^ k)
   unfolding place
   nothing n e = rw (e, zero-div (2 ^ k), zero-mod (2 ^ k)) refl
 
-  pub no-sum : m ≡ 0 → {h : ℕ} → h ≡ cond (Bool·beq sx sy) (withSign sx 0) (cancelled mode) → result h 0 ≡ exactSum mode unmaskedUE sx x sy y (2 ^ (k + 26))
+  pub no-sum : m ≡ 0 → {h : ℕ} → h ≡ cond (Bool·beq sx sy) (withSign sx 0) (cancelled mode)
+      → result h 0 ≡ exactSum mode unmaskedUE sx x sy y (2 ^ (k + 26))
   unfolding exactSum
   no-sum z {h} hh = go (Bool·beq sx sy) (ltb x y) refl refl hm hh
     where
-      go : (l b : Bool) → Bool·beq sx sy ≡ l → ltb x y ≡ b → m ≡ cond l (x + y) (cond b (y - x) (x - y)) → h ≡ cond l (withSign sx 0) (cancelled mode) → result h 0 ≡ exactSum mode unmaskedUE sx x sy y (2 ^ (k + 26))
+      go : (l b : Bool) → Bool·beq sx sy ≡ l → ltb x y ≡ b → m ≡ cond l (x + y) (cond b (y - x) (x - y))
+          → h ≡ cond l (withSign sx 0) (cancelled mode) → result h 0 ≡ exactSum mode unmaskedUE sx x sy y (2 ^ (k + 26))
       go true b p q em eh = rw (p, eh) (at (x + y) sx (nothing (x + y) (sym em ∙ z)) (zero-rounds mode unmaskedUE sx))
       go false true p q em eh = let l : x < y = ltb-true _ _ q in absurd (let f : y - x ≡ 0 = sym em ∙ z in omega arith)
       go false false p q em eh =
@@ -76,19 +80,25 @@ module _ (mode : Mode) (unmaskedUE sx : Bool) (x : ℕ) (sy : Bool) (y k : ℕ) 
 
   pub summed : (m ≡ 0 → ⊥) → {t : ℕ} {neg : Bool} {o : Outcome} → neg ≡ sumSign sx x sy y → t ≡ place m (2 ^ k)
       → o ≡ roundedHalf mode unmaskedUE neg (ratio t (2 ^ 27)) → o ≡ exactSum mode unmaskedUE sx x sy y (2 ^ (k + 26))
-  summed n {t} {neg} hn ht h = at m neg ht h ∙ rw (hn, hm) (sum-rounded mode unmaskedUE sx x sy y (2 ^ (k + 26)) (let g : 0 < m = omega arith in rw (← hm) g))
+  summed n {t} {neg} hn ht h =
+      at m neg ht h ∙ rw (hn, hm) (sum-rounded mode unmaskedUE sx x sy y (2 ^ (k + 26)) (let g : 0 < m = omega arith in rw (← hm) g))
 
 -- ---- the DE of two operands, of which the code hands the last in again, beside what follows
-pub beside : (a b : ℕ) {f : ℕ} {o r q : Outcome} → f ≡ flag DE (some isSubnormal (a ∷ b ∷ b ∷ [])) → r ≡ result (o .half) (bitOr f (o .flags)) → o ≡ q → r ≡ withDenormals (a ∷ b ∷ []) q
+pub beside : (a b : ℕ) {f : ℕ} {o r q : Outcome} → f ≡ flag DE (some isSubnormal (a ∷ b ∷ b ∷ []))
+    → r ≡ result (o .half) (bitOr f (o .flags)) → o ≡ q → r ≡ withDenormals (a ∷ b ∷ []) q
 beside a b hf hr ho = rw (← ho, ← again (isSubnormal b), ← hf) hr
 
 -- ---- a + b in units of 2 ^ -27
-pub sum-units : (mode : Mode) (unmaskedUE : Bool) (a b : ℕ) {x y : ℕ} {sx sy : Bool} {o : Outcome} → x ≡ units a → y ≡ units b → sx ≡ negative a → sy ≡ negative b
-    → o ≡ exactSum mode unmaskedUE sx (x * 8) sy (y * 8) (2 ^ 27) → o ≡ exactSum mode unmaskedUE (negative a) (units a) (negative b) (units b) (2 ^ 24)
-sum-units mode unmaskedUE a b {x} {y} {sx} {sy} hx hy hs ht h = rw (← hx, ← hy, ← hs, ← ht) (h ∙ sum-scale mode unmaskedUE sx x sy y (2 ^ 24) 8 (omega arith) (omega arith))
+pub sum-units : (mode : Mode) (unmaskedUE : Bool) (a b : ℕ) {x y : ℕ} {sx sy : Bool} {o : Outcome} → x ≡ units a → y ≡ units b
+    → sx ≡ negative a → sy ≡ negative b
+    → o ≡ exactSum mode unmaskedUE sx (x * 8) sy (y * 8) (2 ^ 27) → o ≡ exactSum mode unmaskedUE (negative a) (units a) (negative b)
+    (units b) (2 ^ 24)
+sum-units mode unmaskedUE a b {x} {y} {sx} {sy} hx hy hs ht h =
+    rw (← hx, ← hy, ← hs, ← ht) (h ∙ sum-scale mode unmaskedUE sx x sy y (2 ^ 24) 8 (omega arith) (omega arith))
 
 -- ---- a * b + c: in units of 2 ^ -27, or of 2 ^ -48
-module _ (mode : Mode) (unmaskedUE : Bool) (a b c : ℕ) {neg sc : Bool} {n : ℕ} (hu : neg ≡ unlike a b) (hs : sc ≡ negative c) (hc : n ≡ units c) {o : Outcome} where
+module _ (mode : Mode) (unmaskedUE : Bool) (a b c : ℕ) {neg sc : Bool} {n : ℕ} (hu : neg ≡ unlike a b) (hs : sc ≡ negative c)
+    (hc : n ≡ units c) {o : Outcome} where
   pub coarse-sum : (x : ℕ) → x * 2 ^ 21 ≡ units a * units b → o ≡ exactSum mode unmaskedUE neg x sc (n * 8) (2 ^ 27)
       → o ≡ exactSum mode unmaskedUE (unlike a b) (units a * units b) (negative c) (units c * 2 ^ 24) (2 ^ 48)
   coarse-sum x hx h =
@@ -100,8 +110,10 @@ module _ (mode : Mode) (unmaskedUE : Bool) (a b c : ℕ) {neg sc : Bool} {n : �
   fine-sum hx h = rw (← hu, ← hs, ← hc, ← hx) h
 
 -- ---- a product, from its place
-pub product-rounded : (mode : Mode) (unmaskedUE : Bool) (a b : ℕ) {neg : Bool} {t : ℕ} {o : Outcome} → neg ≡ unlike a b → t ≡ place (units a * units b) (2 ^ 22)
-    → o ≡ roundedHalf mode unmaskedUE neg (ratio t (2 ^ 27)) → o ≡ roundedHalf mode unmaskedUE (unlike a b) (ratio (units a * units b) (2 ^ 48))
+pub product-rounded : (mode : Mode) (unmaskedUE : Bool) (a b : ℕ) {neg : Bool} {t : ℕ} {o : Outcome} → neg ≡ unlike a b
+    → t ≡ place (units a * units b) (2 ^ 22)
+    → o ≡ roundedHalf mode unmaskedUE neg (ratio t (2 ^ 27)) → o ≡ roundedHalf mode unmaskedUE (unlike a b)
+    (ratio (units a * units b) (2 ^ 48))
 product-rounded mode unmaskedUE a b {neg} hu ht h = rw (← hu) (h ∙ sym (rw ht (sticky-shift mode unmaskedUE neg (units a * units b) 22)))
 
 -- ---- sums of the short way, in units of 2 ^ -57
@@ -114,7 +126,8 @@ magnitude-scale false x y c h = rw (ltb-scale x y c h) (go (ltb x y))
     go false = sym (less-scale x y c)
 
 -- m is the magnitude of ± x and ± y added, at the exponent l
-scaled-sum : {sx sy : Bool} (x y : ℕ) {l m X Y : ℕ} {neg : Bool} → l < 64 → x * 2 ^ l ≡ X → y * 2 ^ l ≡ Y → m ≡ sumMagnitude (Bool·beq sx sy) x y → neg ≡ sumSign sx x sy y
+scaled-sum : {sx sy : Bool} (x y : ℕ) {l m X Y : ℕ} {neg : Bool} → l < 64 → x * 2 ^ l ≡ X → y * 2 ^ l ≡ Y
+    → m ≡ sumMagnitude (Bool·beq sx sy) x y → neg ≡ sumSign sx x sy y
     → Summed sx X sy Y (record { neg = neg; digits = m; exponent = l })
 scaled-sum {sx} {sy} x y {l} h hx hy hm hn =
     record {
@@ -124,23 +137,27 @@ scaled-sum {sx} {sy} x y {l} h hx hy hm hn =
     }
 
 -- two normal halves, x and y in units of 2 ^ -25
-pub normal-sum : (a b : ℕ) {x y m : ℕ} {sx sy neg : Bool} → x ≡ units a * 2 → y ≡ units b * 2 → sx ≡ negative a → sy ≡ negative b → m ≡ sumMagnitude (Bool·beq sx sy) x y → neg ≡ sumSign sx x sy y
+pub normal-sum : (a b : ℕ) {x y m : ℕ} {sx sy neg : Bool} → x ≡ units a * 2 → y ≡ units b * 2 → sx ≡ negative a → sy ≡ negative b
+    → m ≡ sumMagnitude (Bool·beq sx sy) x y → neg ≡ sumSign sx x sy y
     → Summed (negative a) (units a * 2 ^ 33) (negative b) (units b * 2 ^ 33) (record { neg = neg; digits = m; exponent = 32 })
 normal-sum a b {x} {y} hx hy hs ht hm hn = rw (← hs, ← ht) (scaled-sum x y (omega arith) (omega arith) (omega arith) hm hn)
 
 -- x * 2 ^ i and y * 2 ^ j at the lower exponent, l
-module _ (x i y j : ℕ) {l : ℕ} (hl : l ≡ min i j) (hx : x < 2 ^ 22) (hy : y < 2 ^ 11) (lo : 9 ≤ i) (hi : i ≤ 67) (jlo : 33 ≤ j) (jhi : j ≤ 62) where
+module _ (x i y j : ℕ) {l : ℕ} (hl : l ≡ min i j) (hx : x < 2 ^ 22) (hy : y < 2 ^ 11) (lo : 9 ≤ i) (hi : i ≤ 67) (jlo : 33 ≤ j)
+    (jhi : j ≤ 62) where
   fit : x * 2 ^ (i - l) + y * 2 ^ (j - l) < 2 ^ 64
   fit = go (leb i j) refl
     where
       go : (b : Bool) → leb i j ≡ b → x * 2 ^ (i - l) + y * 2 ^ (j - l) < 2 ^ 64
       go true e =
           let g : i ≤ j = leb-true _ _ e in
-          let u : y * 2 ^ (j - l) ≤ 2047 * 2 ^ 53 = mul-le-mul {n₁ = y} {m₁ = 2 ^ (j - l)} {n₂ = 2047} {m₂ = 2 ^ 53} (omega arith) (pow-mono {i = j - l} {j = 53} (omega arith)) in
+          let u : y * 2 ^ (j - l) ≤ 2047 * 2 ^ 53 =
+          mul-le-mul {n₁ = y} {m₁ = 2 ^ (j - l)} {n₂ = 2047} {m₂ = 2 ^ 53} (omega arith) (pow-mono {i = j - l} {j = 53} (omega arith)) in
           rw (let z : i - l ≡ 0 = omega arith in z) (omega arith)
       go false e =
           let g : j < i = leb-false _ _ e in
-          let u : x * 2 ^ (i - l) ≤ 2 ^ 22 * 2 ^ 34 = mul-le-mul {n₁ = x} {m₁ = 2 ^ (i - l)} {n₂ = 2 ^ 22} {m₂ = 2 ^ 34} (omega arith) (pow-mono {i = i - l} {j = 34} (omega arith)) in
+          let u : x * 2 ^ (i - l) ≤ 2 ^ 22 * 2 ^ 34 =
+          mul-le-mul {n₁ = x} {m₁ = 2 ^ (i - l)} {n₂ = 2 ^ 22} {m₂ = 2 ^ 34} (omega arith) (pow-mono {i = i - l} {j = 34} (omega arith)) in
           rw (let z : j - l ≡ 0 = omega arith in z) (omega arith)
 
   shl-x : x * 2 ^ (i - l) % 2 ^ 64 ≡ x * 2 ^ (i - l)
@@ -155,7 +172,8 @@ module _ (x i y j : ℕ) {l : ℕ} (hl : l ≡ min i j) (hx : x < 2 ^ 22) (hy : 
   pub shifted-fit : x * 2 ^ (i - l) % 2 ^ 64 + y * 2 ^ (j - l) % 2 ^ 64 < 2 ^ 64
   shifted-fit = rw (shl-x, shl-y) fit
 
-  pub shifted-sum : {sx sy neg : Bool} {m : ℕ} → m ≡ sumMagnitude (Bool·beq sx sy) (x * 2 ^ (i - l) % 2 ^ 64) (y * 2 ^ (j - l) % 2 ^ 64) → neg ≡ sumSign sx (x * 2 ^ (i - l) % 2 ^ 64) sy (y * 2 ^ (j - l) % 2 ^ 64)
+  pub shifted-sum : {sx sy neg : Bool} {m : ℕ} → m ≡ sumMagnitude (Bool·beq sx sy) (x * 2 ^ (i - l) % 2 ^ 64) (y * 2 ^ (j - l) % 2 ^ 64)
+      → neg ≡ sumSign sx (x * 2 ^ (i - l) % 2 ^ 64) sy (y * 2 ^ (j - l) % 2 ^ 64)
       → Summed sx (x * 2 ^ i) sy (y * 2 ^ j) (record { neg = neg; digits = m; exponent = l })
   shifted-sum hm hn =
       scaled-sum (x * 2 ^ (i - l) % 2 ^ 64) (y * 2 ^ (j - l) % 2 ^ 64) (omega arith)
@@ -163,27 +181,40 @@ module _ (x i y j : ℕ) {l : ℕ} (hl : l ≡ min i j) (hx : x < 2 ^ 22) (hy : 
       (ap (λ (n : ℕ). n * 2 ^ l) shl-y ∙ back y j (omega arith)) hm hn
 
 -- a product and an addend that are normal
-pub normal-fused : (a b c : ℕ) → isNormal a ≡ true → isNormal b ≡ true → isNormal c ≡ true → {x i j y k : ℕ} {sx sy : Bool} {s : Sum} → x ≡ significand a * significand b → i ≡ exponentField a → j ≡ exponentField b
-    → y ≡ significand c → k ≡ exponentField c → sx ≡ unlike a b → sy ≡ negative c → Summed sx (x * 2 ^ (i + j + 7)) sy (y * 2 ^ (k + 32)) s → Summed (unlike a b) (units a * units b * 2 ^ 9) (negative c) (units c * 2 ^ 33) s
+pub normal-fused : (a b c : ℕ) → isNormal a ≡ true → isNormal b ≡ true → isNormal c ≡ true → {x i j y k : ℕ} {sx sy : Bool} {s : Sum}
+    → x ≡ significand a * significand b → i ≡ exponentField a → j ≡ exponentField b
+    → y ≡ significand c → k ≡ exponentField c → sx ≡ unlike a b → sy ≡ negative c → Summed sx (x * 2 ^ (i + j + 7)) sy (y * 2 ^ (k + 32)) s
+    → Summed (unlike a b) (units a * units b * 2 ^ 9) (negative c) (units c * 2 ^ 33) s
 normal-fused a b c na nb nc {y = y} {k = k} hx hi hj hy hk hs ht h =
-    let e : y * 2 ^ (k + 32) ≡ units c * 2 ^ 33 = sym (pow-join y k 32 refl) ∙ ap (λ (n : ℕ). n * 2 ^ 32) (normal-units c nc hy hk) ∙ mul-assoc (units c) 2 (2 ^ 32) in
+    let e : y * 2 ^ (k + 32) ≡ units c * 2 ^ 33 =
+    sym (pow-join y k 32 refl) ∙ ap (λ (n : ℕ). n * 2 ^ 32) (normal-units c nc hy hk) ∙ mul-assoc (units c) 2 (2 ^ 32) in
     rw (← hs, ← ht, ← product-units a b na nb hx hi hj, ← e) h
 
 -- rounded, where it is large
-large-sum : (mode : Mode) (unmaskedUE : Bool) {sx sy : Bool} {x y : ℕ} {s : Sum} {o : Outcome} → Summed sx x sy y s → 2 ^ 43 ≤ s .digits * 2 ^ s .exponent
-    → ((u : Bool) → o ≡ roundedHalf mode u (s .neg) (ratio (s .digits * 2 ^ s .exponent) (2 ^ 57))) → o ≡ exactSum mode unmaskedUE sx x sy y (2 ^ 57)
+large-sum : (mode : Mode) (unmaskedUE : Bool) {sx sy : Bool} {x y : ℕ} {s : Sum} {o : Outcome} → Summed sx x sy y s
+    → 2 ^ 43 ≤ s .digits * 2 ^ s .exponent
+    → ((u : Bool) → o ≡ roundedHalf mode u (s .neg) (ratio (s .digits * 2 ^ s .exponent) (2 ^ 57))) → o ≡ exactSum mode unmaskedUE sx x sy
+    y (2 ^ 57)
 large-sum mode unmaskedUE {sx} {sy} {x} {y} h n ho =
-    ho unmaskedUE ∙ rw (h .magnitude, h .sign) (sum-rounded mode unmaskedUE sx x sy y (2 ^ 57) (let g : 2 ^ 43 ≤ sumMagnitude (Bool·beq sx sy) x y = rw (h .magnitude) at n in omega (arith, g)))
+    ho unmaskedUE ∙ rw (h .magnitude, h .sign)
+    (sum-rounded mode unmaskedUE sx x sy y (2 ^ 57)
+    (let g : 2 ^ 43 ≤ sumMagnitude (Bool·beq sx sy) x y = rw (h .magnitude) at n in omega (arith, g)))
 
-pub add-rounds : (mode : Mode) (unmaskedUE : Bool) (a b : ℕ) → isNormal a ≡ true → isNormal b ≡ true → {s : Sum} {o : Outcome} → Summed (negative a) (units a * 2 ^ 33) (negative b) (units b * 2 ^ 33) s → 2 ^ 43 ≤ s .digits * 2 ^ s .exponent
+pub add-rounds : (mode : Mode) (unmaskedUE : Bool) (a b : ℕ) → isNormal a ≡ true → isNormal b ≡ true → {s : Sum} {o : Outcome}
+    → Summed (negative a) (units a * 2 ^ 33) (negative b) (units b * 2 ^ 33) s → 2 ^ 43 ≤ s .digits * 2 ^ s .exponent
     → ((u : Bool) → o ≡ roundedHalf mode u (s .neg) (ratio (s .digits * 2 ^ s .exponent) (2 ^ 57))) → o ≡ halfAdd mode unmaskedUE a b
 add-rounds mode unmaskedUE a b na nb h n ho =
-    large-sum mode unmaskedUE h n ho ∙ sum-scale mode unmaskedUE (negative a) (units a) (negative b) (units b) (2 ^ 24) (2 ^ 33) (omega arith) (omega arith) ∙ sym (normal-add mode unmaskedUE a b na nb)
+    large-sum mode unmaskedUE h n ho ∙ sum-scale mode unmaskedUE (negative a) (units a) (negative b) (units b) (2 ^ 24) (2 ^ 33)
+    (omega arith) (omega arith) ∙ sym (normal-add mode unmaskedUE a b na nb)
 
-pub fused-rounds : (mode : Mode) (unmaskedUE : Bool) (a b c : ℕ) → isNormal a ≡ true → isNormal b ≡ true → isNormal c ≡ true → {s : Sum} {o : Outcome} → Summed (unlike a b) (units a * units b * 2 ^ 9) (negative c) (units c * 2 ^ 33) s
-    → 2 ^ 43 ≤ s .digits * 2 ^ s .exponent → ((u : Bool) → o ≡ roundedHalf mode u (s .neg) (ratio (s .digits * 2 ^ s .exponent) (2 ^ 57))) → o ≡ halfMultiplyAdd mode unmaskedUE a b c
+pub fused-rounds : (mode : Mode) (unmaskedUE : Bool) (a b c : ℕ) → isNormal a ≡ true → isNormal b ≡ true → isNormal c ≡ true
+    → {s : Sum} {o : Outcome} → Summed (unlike a b) (units a * units b * 2 ^ 9) (negative c) (units c * 2 ^ 33) s
+    → 2 ^ 43 ≤ s .digits * 2 ^ s .exponent → ((u : Bool) → o ≡ roundedHalf mode u (s .neg) (ratio (s .digits * 2 ^ s .exponent) (2 ^ 57)))
+    → o ≡ halfMultiplyAdd mode unmaskedUE a b c
 fused-rounds mode unmaskedUE a b c na nb nc h n ho =
     large-sum mode unmaskedUE h n ho
-    ∙ ap (λ (v : ℕ). exactSum mode unmaskedUE (unlike a b) (units a * units b * 2 ^ 9) (negative c) v (2 ^ 57)) (let u : units c * 2 ^ 33 ≡ units c * 2 ^ 24 * 2 ^ 9 = omega arith in u)
-    ∙ sum-scale mode unmaskedUE (unlike a b) (units a * units b) (negative c) (units c * 2 ^ 24) (2 ^ 48) (2 ^ 9) (omega arith) (omega arith)
+    ∙ ap (λ (v : ℕ). exactSum mode unmaskedUE (unlike a b) (units a * units b * 2 ^ 9) (negative c) v (2 ^ 57))
+    (let u : units c * 2 ^ 33 ≡ units c * 2 ^ 24 * 2 ^ 9 = omega arith in u)
+    ∙ sum-scale mode unmaskedUE (unlike a b) (units a * units b) (negative c) (units c * 2 ^ 24) (2 ^ 48) (2 ^ 9) (omega arith)
+    (omega arith)
     ∙ sym (normal-multiply-add mode unmaskedUE a b na nb c nc)

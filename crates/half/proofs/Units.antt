@@ -68,7 +68,8 @@ pub finite-le : (h : ℕ) → isFinite h ≡ true → units h ≤ 2047 * 2 ^ 29
 unfolding units
 finite-le h f =
     let n : (exponentField h ≡ 31 → ⊥) = eqb-false (exponentField h) 31 (not-true (eqb (exponentField h) 31) f) in
-    mul-le-mul {n₁ = significand h} {m₁ = 2 ^ lift h} {n₂ = 2047} {m₂ = 2 ^ 29} (omega (arith, significand-lt h)) (pow-mono {i = lift h} {j = 29} (omega arith))
+    mul-le-mul {n₁ = significand h} {m₁ = 2 ^ lift h} {n₂ = 2047} {m₂ = 2 ^ 29} (omega (arith, significand-lt h))
+    (pow-mono {i = lift h} {j = 29} (omega arith))
 
 pub finite-lt : (h : ℕ) → isFinite h ≡ true → units h < 2 ^ 40
 finite-lt h f = omega (arith, finite-le h f)

@@ -6,7 +6,8 @@ use mathlib.Core.List.{List, [], _∷_}
 use lib.Dec.{ltb}
 use lib.Bits.{bitOr}
 use Rattle.lists.specs.Lists.{some}
-use Rattle.half.specs.Format.{negative, isFinite, isInfinite, isNan, isSignalling, isZero, isSubnormal, units, withSign, infinity, negated, quiet}
+use Rattle.half.specs.Format.{negative, isFinite, isInfinite, isNan, isSignalling, isZero, isSubnormal, units, withSign, infinity}
+use Rattle.half.specs.Format.{negated, quiet}
 use Rattle.half.specs.Exact.{ratio, rootOf}
 use Rattle.half.specs.Round.{IE, DE, ZE, flag, result, roundedHalf}
 use Rattle.half.specs.declared.Mode.{Mode}
@@ -20,7 +21,8 @@ abbrev pub firstNan : List ℕ → ℕ
 firstNan [] = 0
 firstNan (h ∷ hs) = cond (isNan h) h (firstNan hs)
 
--- 1. "A NaN operand: the result is the first NaN operand, made quiet by setting fraction bit 9." "IE exactly if some operand is signalling."
+-- 1. "A NaN operand: the result is the first NaN operand, made quiet by setting fraction bit 9." "IE exactly if some operand is
+-- signalling."
 abbrev pub nanResult : List ℕ → Outcome
 nanResult hs = result (quiet (firstNan hs)) (flag IE (some isSignalling hs))
 

@@ -1,7 +1,8 @@
 // The fields of a half, by shifts and masks, and halves made of them.
 ghost use mathlib.Core.Path.{_≡_};
 ghost use Prim.Native.Nat.{_<_, _-_};
-ghost use Rattle.half.specs.Format.{negative, exponentField, fractionField, isFinite, isInfinite, isNan, isSignalling, isZero, isSubnormal, significand, units, withSign, quiet};
+ghost use Rattle.half.specs.Format.{negative, exponentField, fractionField, isFinite, isInfinite, isNan, isSignalling, isZero};
+ghost use Rattle.half.specs.Format.{isSubnormal, significand, units, withSign, quiet};
 ghost use Rattle.half.specs.Work.{scale};
 
 pub fn sign_of(h: u16) -> bool

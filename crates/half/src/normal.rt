@@ -96,7 +96,8 @@ pub fn round_large(mode: Mode, neg: bool, m: u64, e: u32) -> Outcome
     packed(mode, neg, z, e + 20 - zeros)
 }
 
-// m * 2^e rounded, where the half may be subnormal. Callers test which of the two it is: in one function the back end puts both out of line.
+// m * 2^e rounded, where the half may be subnormal. Callers test which of the two it is: in one function the back end puts both out of
+// line.
 pub fn round_small(mode: Mode, unmasked_ue: bool, neg: bool, m: u64, e: u32) -> Outcome
     requires { ⌜ e < 31 ⌝ }
     ensures { λ r. ⌜ r ≡ roundedHalf mode «unmasked_ue» neg (ratio (m * 2 ^ e) (2 ^ 57)) ⌝ }

@@ -18,7 +18,8 @@ pub first-found : (xs : List (Bool × ℕ)) (n m : ℕ) → firstOf xs 0 ≡ suc
 first-found [] n m e = absurd (omega arith)
 first-found (x ∷ xs) n m e = go (x .0) (first-found xs n m) e
   where
-    go : (t : Bool) → (firstOf xs 0 ≡ suc n → firstOf xs m ≡ suc n) → cond t (x .1) (firstOf xs 0) ≡ suc n → cond t (x .1) (firstOf xs m) ≡ suc n
+    go : (t : Bool) → (firstOf xs 0 ≡ suc n → firstOf xs m ≡ suc n) → cond t (x .1) (firstOf xs 0) ≡ suc n
+        → cond t (x .1) (firstOf xs m) ≡ suc n
     go true later e = e
     go false later e = later e
 

@@ -1,11 +1,13 @@
--- Laws of the lists that the definitions make, over any elements: `table`, `some`, `orAll`, `paste`. A loop meets a table one index at a time
+-- Laws of the lists that the definitions make, over any elements: `table`, `some`, `orAll`, `paste`. A loop meets a table one index at a
+-- time
 -- (`table-next`, `some-next`, `or-next`); where it has filled an array, `is-table` says what it is.
 -- Assumes nothing.
 use Prim.Native.Nat.{ℕ, zero, suc, _+_, _*_, _/_, _^_, _≤_, _<_}
 use mathlib.Core.Path.{_≡_, refl, sym, ap, ap₂, _∙_}
 use mathlib.Core.Bool.{Bool, true, false, not, _||_, or-true, or-false, or-assoc, false≢true}
 use mathlib.Core.Logic.{_⊎_, inl, inr}
-use mathlib.Core.List.{List, [], _∷_, _++_, List·Memᴰ, List·Memᴰ·head, List·Memᴰ·tail, List·Memᴰ·not-nil, List·Memᴰ·cases-cons, Memᴰ·cast, append-assoc, append-nil}
+use mathlib.Core.List.{List, [], _∷_, _++_, List·Memᴰ, List·Memᴰ·head, List·Memᴰ·tail, List·Memᴰ·not-nil, List·Memᴰ·cases-cons, Memᴰ·cast}
+use mathlib.Core.List.{append-assoc, append-nil}
 use native.Mathlib.Nat.{add-zero}
 use native.Mathlib.Numerals.{add-one}
 use native.Mathlib.Omega.{arith}
@@ -14,7 +16,8 @@ use lib.Bits.{bitAnd, bitOr, and-step, or-step, and-zero-r, or-zero-l, or-zero-r
 use lib.Dec.{eqb}
 use lib.ListN.{length, getD, take, drop, set, drop-of-length-le, List·getD-append}
 use lib.Pow.{pow-pos}
-use lib.Seq.{paste, ext-getD, drop-cons, set-at, append-snoc, take-all, length-paste-head, getD-append-add, getD-take, getD-drop, length-take-le}
+use lib.Seq.{paste, ext-getD, drop-cons, set-at, append-snoc, take-all, length-paste-head, getD-append-add, getD-take, getD-drop}
+use lib.Seq.{length-take-le}
 use Rattle.lists.specs.Lists.{some, orAll, tableFrom, table, numberAt}
 
 -- ---- tables
@@ -75,7 +78,8 @@ module _ {A : Type 0} where
 
   tableFrom-next : (f : ℕ → A) (i n : ℕ) → tableFrom i (suc n) f ≡ tableFrom i n f ++ (f (i + n) ∷ [])
   tableFrom-next f i zero = ap (λ (k : ℕ). f k ∷ []) (sym (add-zero i))
-  tableFrom-next f i (suc n) = ap (λ (l : List A). f i ∷ l) (tableFrom-next f (suc i) n ∙ ap (λ (k : ℕ). tableFrom (suc i) n f ++ (f k ∷ [])) (omega arith))
+  tableFrom-next f i (suc n) =
+      ap (λ (l : List A). f i ∷ l) (tableFrom-next f (suc i) n ∙ ap (λ (k : ℕ). tableFrom (suc i) n f ++ (f k ∷ [])) (omega arith))
 
   -- one element more, at the end
   pub table-next : (n : ℕ) (f : ℕ → A) → table (n + 1) f ≡ table n f ++ (f n ∷ [])
@@ -134,7 +138,8 @@ module _ (p : ℕ → Bool) where
 assoc-below : (n a b c : ℕ) → a ≤ n → bitOr (bitOr a b) c ≡ bitOr a (bitOr b c)
 assoc-below zero a b c h = let e : a ≡ 0 = omega arith in rw (e, or-zero-l b, or-zero-l (bitOr b c))
 assoc-below (suc n) a b c h =
-    let above : bitOr (bitOr (a / 2) (b / 2)) (c / 2) ≡ bitOr (a / 2) (bitOr (b / 2) (c / 2)) = assoc-below n (a / 2) (b / 2) (c / 2) (omega arith) in
+    let above : bitOr (bitOr (a / 2) (b / 2)) (c / 2) ≡ bitOr (a / 2) (bitOr (b / 2) (c / 2)) =
+    assoc-below n (a / 2) (b / 2) (c / 2) (omega arith) in
     let left : bitOr a b / 2 ≡ bitOr (a / 2) (b / 2) = omega (arith, or-step a b) in
     let right : bitOr b c / 2 ≡ bitOr (b / 2) (c / 2) = omega (arith, or-step b c) in
     rw (or-step (bitOr a b) c, or-step a (bitOr b c), left, right, above) (omega (arith, or-step a b, or-step b c))
@@ -162,11 +167,13 @@ or-table-below k n f h = or-below k 0 n f h
 and-or-below : (n a b m : ℕ) → m ≤ n → bitAnd (bitOr a b) m ≡ bitOr (bitAnd a m) (bitAnd b m)
 and-or-below zero a b m h = let e : m ≡ 0 = omega arith in rw (e, and-zero-r (bitOr a b), and-zero-r a, and-zero-r b)
 and-or-below (suc n) a b m h =
-    let above : bitAnd (bitOr (a / 2) (b / 2)) (m / 2) ≡ bitOr (bitAnd (a / 2) (m / 2)) (bitAnd (b / 2) (m / 2)) = and-or-below n (a / 2) (b / 2) (m / 2) (omega arith) in
+    let above : bitAnd (bitOr (a / 2) (b / 2)) (m / 2) ≡ bitOr (bitAnd (a / 2) (m / 2)) (bitAnd (b / 2) (m / 2)) =
+    and-or-below n (a / 2) (b / 2) (m / 2) (omega arith) in
     let both : bitOr a b / 2 ≡ bitOr (a / 2) (b / 2) = omega (arith, or-step a b) in
     let left : bitAnd a m / 2 ≡ bitAnd (a / 2) (m / 2) = omega (arith, and-step a m) in
     let right : bitAnd b m / 2 ≡ bitAnd (b / 2) (m / 2) = omega (arith, and-step b m) in
-    rw (and-step (bitOr a b) m, or-step (bitAnd a m) (bitAnd b m), both, left, right, above) (omega (arith, or-step a b, and-step a m, and-step b m))
+    rw (and-step (bitOr a b) m, or-step (bitAnd a m) (bitAnd b m), both, left, right, above)
+    (omega (arith, or-step a b, and-step a m, and-step b m))
 
 -- some of the bits m is set
 abbrev pub meets : ℕ → ℕ → Bool

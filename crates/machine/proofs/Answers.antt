@@ -1,4 +1,5 @@
--- Demand 1: the statements of specs/Answers.antt. The number is `firstOf` of the one list of conditions, and each of them has a number that is not 0;
+-- Demand 1: the statements of specs/Answers.antt. The number is `firstOf` of the one list of conditions, and each of them has a number that
+-- is not 0;
 -- what is left is read off the two ways in which a step ends.
 -- Assumes nothing.
 use Prim.Native.Nat.{ℕ, suc, _<_}
@@ -46,7 +47,8 @@ module _ (memory : List ℕ) (s : State) (code : List ℕ) where
   number-is = go (answerOf memory s code) (decoded code)
     where
       go : (n : ℕ) (d : Decoded)
-          → ofFields d (refused n s) (λ (i : Instruction). cond (eqb n 0) (completed memory s i) (cond (eqb n 8) (stopped memory s i) (refused n s))) .answer .number ≡ n
+          → ofFields d (refused n s) (λ (i : Instruction). cond (eqb n 0) (completed memory s i)
+          (cond (eqb n 8) (stopped memory s i) (refused n s))) .answer .number ≡ n
       go n (Refused r) = refl
       go n (Fields i) = picked (eqb n 0) (eqb n 8) refl refl
         where
@@ -74,17 +76,31 @@ module _ (memory : List ℕ) (s : State) where
   stopped-leaves : (i : Instruction) → Leaves s (stopped memory s i)
   unfolding stopped controlAfter
   stopped-leaves i =
-      let f : (f : ℕ) × (f < 64) × (controlAfter s i (gathered memory s i) ≡ bitOr (s .control) f) = recorded-flags (i .rounding) (s .control) _ (raised-below s i (gathered memory s i)) in
+      let f : (f : ℕ) × (f < 64) × (controlAfter s i (gathered memory s i) ≡ bitOr (s .control) f) =
+      recorded-flags (i .rounding) (s .control) _ (raised-below s i (gathered memory s i)) in
       record {
         moved = λ e. absurd (omega arith);
         before = λ _ h. absurd (h refl);
-        flagged = λ _. (f .0, f .1, λ x. record { vectors = s .vectors; masks = s .masks; general = s .general; control = f .2 x; pointer = s .pointer });
+        flagged =
+            λ _. (
+              f .0,
+              f .1,
+              λ x. record {
+                vectors = s .vectors;
+                masks = s .masks;
+                general = s .general;
+                control = f .2 x;
+                pointer
+                    = s .pointer;
+              },
+            );
         length = λ _. refl;
       }
 
   completed-leaves : (i : Instruction) → Leaves s (completed memory s i)
   unfolding completed
-  completed-leaves i = record { moved = λ _. refl; before = λ h _. absurd (h refl); flagged = λ e. absurd (omega arith); length = λ h. absurd (h refl) }
+  completed-leaves i =
+      record { moved = λ _. refl; before = λ h _. absurd (h refl); flagged = λ e. absurd (omega arith); length = λ h. absurd (h refl) }
 
   leaves : (code : List ℕ) → Leaves s (step memory s code)
   leaves code = go (way s code)

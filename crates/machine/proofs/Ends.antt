@@ -1,4 +1,5 @@
--- The ways in which a step ends, a law for each `return` of a code that tests in the order of document 01: what the proof of the step's code cites.
+-- The ways in which a step ends, a law for each `return` of a code that tests in the order of document 01: what the proof of the step's
+-- code cites.
 -- Below them the two ways that the theorems go by: something before 7 refuses, or the instruction is decoded.
 -- Assumes nothing.
 use Prim.Native.Nat.{ℕ, suc, _≤_, _<_, _^_}
@@ -22,7 +23,8 @@ use Rattle.evex.proofs.Answer as evex
 use Rattle.machine.specs.State.{State}
 use Rattle.machine.specs.Memory.{needsOutside}
 use Rattle.machine.specs.Lanes.{gathered, raisesUnmasked}
-use Rattle.machine.specs.Step.{ofFields, wrongVectorFile, highControlBit, outsideMemory, unmaskedException, beforeSeven, conditions, answerOf, refused, stopped, completed, step}
+use Rattle.machine.specs.Step.{ofFields, wrongVectorFile, highControlBit, outsideMemory, unmaskedException, beforeSeven, conditions}
+use Rattle.machine.specs.Step.{answerOf, refused, stopped, completed, step}
 use Rattle.machine.specs.TwoRuns.{IsDecoded}
 
 -- ---- the tests of 1 and 2
@@ -95,7 +97,8 @@ module _ (memory : List ℕ) (s : State) (code : List ℕ) where
 
 -- ---- a step turns on what is decoded alone
 
-pub by-decoded : (memory : List ℕ) (s : State) (code other : List ℕ) → decoded other ≡ decoded code → step memory s other ≡ step memory s code
+pub by-decoded : (memory : List ℕ) (s : State) (code other : List ℕ) → decoded other ≡ decoded code
+    → step memory s other ≡ step memory s code
 unfolding step
 by-decoded memory s code other e = rw (answer memory s other, answer memory s code, before s other, before s code, e)
 

@@ -11,7 +11,8 @@ use Rattle.half.specs.Round.{IE, DE, ZE, UE, PE, flag, result, tiny, inexact, o
 use Rattle.lists.specs.Lists.{some}
 use Rattle.lists.proofs.Tests.{either}
 use Rattle.lists.proofs.Tables.{or-table-below}
-use Rattle.half.specs.Operations.{invalid, exactly, nanResult, exactSum, withDenormals, unlessNan, halfAdd, halfSubtract, halfMultiply, halfDivide, halfRoot, halfMultiplyAdd}
+use Rattle.half.specs.Operations.{invalid, exactly, nanResult, exactSum, withDenormals, unlessNan, halfAdd, halfSubtract, halfMultiply}
+use Rattle.half.specs.Operations.{halfDivide, halfRoot, halfMultiplyAdd}
 use Rattle.half.specs.declared.Mode.{Mode}
 use Rattle.half.specs.declared.Outcome.{Outcome}
 use Rattle.evex.specs.declared.Operation.{Operation}

@@ -1,4 +1,5 @@
--- The conditions of 7 and 8, as specs/OffLanes.antt has them: a search of all lanes finds one that is on, and one that is on is among those searched,
+-- The conditions of 7 and 8, as specs/OffLanes.antt has them: a search of all lanes finds one that is on, and one that is on is among those
+-- searched,
 -- since an instruction has at most 32.
 -- Assumes nothing.
 use Prim.Native.Nat.{ℕ, _≤_, _<_}
@@ -61,7 +62,8 @@ module _ (s : State) (code : List ℕ) (i : Instruction) (fields : decoded code 
     raising e =
         let l : (x : ℕ) × List·Memᴰ x (table 32 laneFlags) × (meets set x ≡ true) = some-member (meets set) _ (sym any ∙ e) in
         let k : (j : ℕ) × (j < 32) × (l .0 ≡ laneFlags j) = member-table 32 laneFlags (l .1) in
-        let r : (on s i (k .0) ≡ true) × (bitAnd (laneOf s i g (k .0) .flags) set ≢ 0) = go (k .0) (on s i (k .0)) refl (rw (k .2) at (l .2)) in
+        let r : (on s i (k .0) ≡ true) × (bitAnd (laneOf s i g (k .0) .flags) set ≢ 0) =
+        go (k .0) (on s i (k .0)) refl (rw (k .2) at (l .2)) in
         (k .0, r .0, r .1)
       where
         go : (j : ℕ) (t : Bool) → on s i j ≡ t → meets set (cond t (laneOf s i g j .flags) 0) ≡ true
@@ -80,7 +82,10 @@ module _ (s : State) (code : List ℕ) (i : Instruction) (fields : decoded code 
   raises g = (raising g (unmasked (i .rounding) (s .control)), raised-by g (unmasked (i .rounding) (s .control)))
 
   flags : Flags s i
-  flags g set = ((λ n. raising g set (rw (ne-eqb (bitAnd (raised s i g) set) 0 n))), (λ k. eqb-false (bitAnd (raised s i g) set) 0 (not-true _ (raised-by g set k))))
+  flags g set = (
+    (λ n. raising g set (rw (ne-eqb (bitAnd (raised s i g) set) 0 n))),
+    (λ k. eqb-false (bitAnd (raised s i g) set) 0 (not-true _ (raised-by g set k))),
+  )
 
 pub off-lanes : OffLanes
 off-lanes s code i fields = (faults s code i fields, raises s code i fields, flags s code i fields)

@@ -9,12 +9,15 @@ use Rattle.half.specs.Modes.{modeOfBits}
 use Rattle.half.specs.Operations.{exactSum, halfAdd, halfMultiply, halfDivide, halfRoot, halfMultiplyAdd}
 use Rattle.half.specs.Rows.{starred}
 use Rattle.evex.specs.List.{rows}
-use Rattle.evex.specs.Fields.{takesSib, headOf, listed, first, registerForm, embeddedRounding, lanes, rounding, hasSib, baseBits, indexOf, noBase, baseOf, displacementAt, displacementSize, N, displacementOf, second, instruction}
+use Rattle.evex.specs.Fields.{takesSib, headOf, listed, first, registerForm, embeddedRounding, lanes, rounding, hasSib, baseBits, indexOf}
+use Rattle.evex.specs.Fields.{noBase, baseOf, displacementAt, displacementSize, N, displacementOf, second, instruction}
 use Rattle.evex.specs.Fields as fields
-use Rattle.evex.specs.Decode.{noBytes, wrongFirstByte, fewerThanSixBytes, wrongFixedBits, notInList, reservedLength, zeroingWithoutMask, extraSource, bytesMissing, longerThanFifteenBytes, refusals, decoded}
+use Rattle.evex.specs.Decode.{noBytes, wrongFirstByte, fewerThanSixBytes, wrongFixedBits, notInList, reservedLength, zeroingWithoutMask}
+use Rattle.evex.specs.Decode.{extraSource, bytesMissing, longerThanFifteenBytes, refusals, decoded}
 use Rattle.lists.specs.Lists.{table}
 use Rattle.machine.specs.Memory.{addressFrom, on, bytesRead, needsOutside}
-use Rattle.machine.specs.Lanes.{registerHalves, memoryHalves, gathered, laneOutcome, results, raised, raisesUnmasked, controlAfter, newRegister, vectorsAfter}
+use Rattle.machine.specs.Lanes.{registerHalves, memoryHalves, gathered, laneOutcome, results, raised, raisesUnmasked, controlAfter}
+use Rattle.machine.specs.Lanes.{newRegister, vectorsAfter}
 use Rattle.machine.specs.Step.{
   wrongVectorFile,
   highControlBit,

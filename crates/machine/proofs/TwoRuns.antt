@@ -1,7 +1,9 @@
 -- Demand 3: the two-run theorem of specs/TwoRuns.antt.
 --
--- A step looks at the vector file and the memory in three ways: at their lengths; through `gathered`, only at lanes that are on and at bytes
--- that these need (`gathered-equal`); and at the destination's own bytes, each of which is kept at its place (`written-alike`). Everything else
+-- A step looks at the vector file and the memory in three ways: at their lengths; through `gathered`, only at lanes that are on and at
+-- bytes
+-- that these need (`gathered-equal`); and at the destination's own bytes, each of which is kept at its place (`written-alike`). Everything
+-- else
 -- is computed from the registers, the bytes and what was gathered, which are equal in both runs (`.. same`).
 -- Assumes nothing.
 use Prim.Native.Nat.{ℕ, suc, _+_, _≤_, _<_}
@@ -21,9 +23,11 @@ use Rattle.lists.proofs.Tests.{either-related, either-equal}
 use Rattle.lists.proofs.Tables.{table-equal, length-table, getD-table, part-at}
 use Rattle.machine.specs.State.{State, registerAt, lanePlaces}
 use Rattle.machine.specs.Memory.{on, nextPointer, bytesRead, needsOutside}
-use Rattle.machine.specs.Lanes.{Sources, registerHalves, memoryHalves, firstHalves, secondHalves, gathered, results, raised, raisesUnmasked, controlAfter, newByte, newRegister, vectorsAfter}
+use Rattle.machine.specs.Lanes.{Sources, registerHalves, memoryHalves, firstHalves, secondHalves, gathered, results, raised}
+use Rattle.machine.specs.Lanes.{raisesUnmasked, controlAfter, newByte, newRegister, vectorsAfter}
 use Rattle.machine.specs.Step.{wrongVectorFile, highControlBit, beforeSeven, refused, stopped, completed, step, run}
-use Rattle.machine.specs.TwoRuns.{EqualOpen, laneNumber, Alike, AlikeAfter, AlikeThroughout, HiddenUnused, HiddenUnusedThroughout, TwoRuns}
+use Rattle.machine.specs.TwoRuns.{EqualOpen, laneNumber, Alike, AlikeAfter, AlikeThroughout, HiddenUnused, HiddenUnusedThroughout}
+use Rattle.machine.specs.TwoRuns.{TwoRuns}
 use Rattle.machine.proofs.Agree.{each-of, equal-at, numbers-equal, paste-equal}
 use Rattle.machine.proofs.Ends.{Way, early, fields, way, decoded-size, step-early, step-decoded}
 
@@ -67,7 +71,8 @@ module _ (HiddenLane HiddenByte : ℕ → Type 0) where
   module _ (s : State) {v : List ℕ} (files : EqualOpen HiddenPlace (s .vectors) v) (i : Instruction) where
     -- ---- what is read
 
-    module _ {memory₁ memory₂ : List ℕ} (memories : EqualOpen HiddenByte memory₁ memory₂) (lanes : (j : ℕ) → on s i j ≡ true → ¬ HiddenLane j) where
+    module _ {memory₁ memory₂ : List ℕ} (memories : EqualOpen HiddenByte memory₁ memory₂)
+        (lanes : (j : ℕ) → on s i j ≡ true → ¬ HiddenLane j) where
       registers-equal : (n : ℕ) → registerHalves (on s i) (s .vectors) n ≡ registerHalves (on s i) v n
       unfolding registerHalves
       registers-equal n =
@@ -78,11 +83,13 @@ module _ (HiddenLane HiddenByte : ℕ → Type 0) where
       first-equal (source.Register n) = registers-equal n
 
       seeither-equal : (x : Operand) → ((j : ℕ) → on s i j ≡ true → Each (λ a. a < length memory₁ → ¬ HiddenByte a) (bytesRead s i x j))
-          → secondHalves (on s i) (s .vectors) memory₁ (s .general) (nextPointer s i) x ≡ secondHalves (on s i) v memory₂ (s .general) (nextPointer s i) x
+          → secondHalves (on s i) (s .vectors) memory₁ (s .general) (nextPointer s i) x ≡ secondHalves (on s i) v memory₂ (s .general)
+          (nextPointer s i) x
       unfolding bytesRead memoryHalves
       seeither-equal (operand.Register n) bytes = registers-equal n
       seeither-equal (operand.Memory a broadcast) bytes =
-          table-equal 32 (λ j k. either-equal 0 (on s i j) (λ t. numbers-equal memories (bytesRead s i (operand.Memory a broadcast) j) (bytes j t)))
+          table-equal 32 (λ j k. either-equal 0 (on s i j)
+          (λ t. numbers-equal memories (bytesRead s i (operand.Memory a broadcast) j) (bytes j t)))
 
       gathered-equal : ((j : ℕ) → on s i j ≡ true → Each (λ a. a < length memory₁ → ¬ HiddenByte a) (bytesRead s i (i .second) j))
           → gathered memory₁ s i ≡ gathered memory₂ (withVectors s v) i
@@ -118,7 +125,8 @@ module _ (HiddenLane HiddenByte : ℕ → Type 0) where
           → EqualOpen HiddenPlace (vectorsAfter s i halves) (vectorsAfter (withVectors s v) i halves)
       unfolding vectorsAfter on
       written-alike fits =
-          paste-equal (registerAt (i .destination)) 64 (newRegister s i halves (old s)) (newRegister (withVectors s v) i halves (old (withVectors s v)))
+          paste-equal (registerAt (i .destination)) 64 (newRegister s i halves (old s))
+          (newRegister (withVectors s v) i halves (old (withVectors s v)))
           files fits (new-length s) (new-length (withVectors s v))
           (λ k h o. new-byte s k h
           ∙ ap (newByte s i halves k) (equal-at files (registerAt (i .destination) + k) (λ _. o))
@@ -130,7 +138,8 @@ module _ (HiddenLane HiddenByte : ℕ → Type 0) where
   left-alike : (s : State) {v : List ℕ} → EqualOpen HiddenPlace (s .vectors) v → Alike HiddenLane s (withVectors s v)
   left-alike s files = record { vectors = files; masks = refl; general = refl; control = refl; pointer = refl }
 
-  refused-alike : (n : ℕ) (s : State) {v : List ℕ} → EqualOpen HiddenPlace (s .vectors) v → AlikeAfter HiddenLane (refused n s) (refused n (withVectors s v))
+  refused-alike : (n : ℕ) (s : State) {v : List ℕ} → EqualOpen HiddenPlace (s .vectors) v
+      → AlikeAfter HiddenLane (refused n s) (refused n (withVectors s v))
   refused-alike n s files = record { answers = refl; states = left-alike s files }
 
   module _ {memory₁ memory₂ : List ℕ} (memories : EqualOpen HiddenByte memory₁ memory₂) where
@@ -159,18 +168,27 @@ module _ (HiddenLane HiddenByte : ℕ → Type 0) where
                 };
           })
 
-    same-step : (s : State) {v : List ℕ} (code : List ℕ) → EqualOpen HiddenPlace (s .vectors) v → HiddenUnused HiddenLane HiddenByte memory₁ s code
+    same-step : (s : State) {v : List ℕ} (code : List ℕ) → EqualOpen HiddenPlace (s .vectors) v
+        → HiddenUnused HiddenLane HiddenByte memory₁ s code
         → AlikeAfter HiddenLane (step memory₁ s code) (step memory₂ (withVectors s v) code)
     same-step s {v} code files unused = go (way s code)
       where
         go : Way s code → AlikeAfter HiddenLane (step memory₁ s code) (step memory₂ (withVectors s v) code)
         go (early n e h) =
-            rw (step-early memory₁ s code n e h, step-early memory₂ (withVectors s v) code n (rw (before-same s v code (files .lengths)) e) h)
+            rw (
+              step-early memory₁ s code n e h,
+              step-early memory₂ (withVectors s v) code n (rw (before-same s v code (files .lengths)) e)
+                  h,
+            )
             (refused-alike (suc n) s files)
         go (fields i d) =
             let g : gathered memory₁ s i ≡ gathered memory₂ (withVectors s v) i =
             gathered-equal s files i memories (unused .lanes i d) (λ j t. each-of _ (λ a m. unused .bytes i d a (j, t, m))) in
-            rw (step-decoded memory₁ s code d, step-decoded memory₂ (withVectors s v) code {i = i} (rw (before-same s v code (files .lengths)) d))
+            rw (
+              step-decoded memory₁ s code d,
+              step-decoded memory₂ (withVectors s v) code {i = i}
+                  (rw (before-same s v code (files .lengths)) d),
+            )
             (rw (outside-same s v i, raises-same s v i, ← g, ← memories .lengths)
             (either-related (AlikeAfter HiddenLane) (needsOutside s i (length memory₁)) (refused-alike 7 s files)
             (either-related (AlikeAfter HiddenLane) (raisesUnmasked s i (gathered memory₁ s i)) (stopped-alike s files i g)
@@ -178,14 +196,24 @@ module _ (HiddenLane HiddenByte : ℕ → Type 0) where
 
     step-alike : (s₁ s₂ : State) (code : List ℕ) → Alike HiddenLane s₁ s₂ → HiddenUnused HiddenLane HiddenByte memory₁ s₁ code
         → AlikeAfter HiddenLane (step memory₁ s₁ code) (step memory₂ s₂ code)
-    step-alike s₁ s₂ code a unused = subst (λ (t : State). AlikeAfter HiddenLane (step memory₁ s₁ code) (step memory₂ t code)) same (same-step s₁ code (a .vectors) unused)
+    step-alike s₁ s₂ code a unused =
+        subst (λ (t : State). AlikeAfter HiddenLane (step memory₁ s₁ code) (step memory₂ t code)) same
+        (same-step s₁ code (a .vectors) unused)
       where
         same : withVectors s₁ (s₂ .vectors) ≡ s₂
-        same = λ x. record { vectors = s₂ .vectors; masks = a .masks x; general = a .general x; control = a .control x; pointer = a .pointer x }
+        same =
+            λ x. record {
+              vectors = s₂ .vectors;
+              masks = a .masks x;
+              general = a .general x;
+              control = a .control x;
+              pointer = a .pointer x;
+            }
 
     -- ---- a run
 
-    runs-alike : (s₁ s₂ : State) (codes : List (List ℕ)) → Alike HiddenLane s₁ s₂ → HiddenUnusedThroughout HiddenLane HiddenByte memory₁ s₁ codes
+    runs-alike : (s₁ s₂ : State) (codes : List (List ℕ)) → Alike HiddenLane s₁ s₂
+        → HiddenUnusedThroughout HiddenLane HiddenByte memory₁ s₁ codes
         → AlikeThroughout HiddenLane (run memory₁ s₁ codes) (run memory₂ s₂ codes)
     unfolding run
     runs-alike s₁ s₂ [] a unused = tt

@@ -28,7 +28,8 @@ module _ (s : State) (i : Instruction) where
 
   -- of any set of flags one is raised exactly if a lane that is on raises one
   abbrev pub Flags : Type 0
-  Flags = (g : Sources) (set : ℕ) → (bitAnd (raised s i g) set ≢ 0) ↔ ((j : ℕ) × SwitchesOn s i j × (bitAnd (laneOf s i g j .flags) set ≢ 0))
+  Flags =
+      (g : Sources) (set : ℕ) → (bitAnd (raised s i g) set ≢ 0) ↔ ((j : ℕ) × SwitchesOn s i j × (bitAnd (laneOf s i g j .flags) set ≢ 0))
 
 -- Of every instruction.
 abbrev pub OffLanes : Type 0

@@ -35,7 +35,8 @@ pub record Alike (HiddenLane : ℕ → Type 0) (s₁ s₂ : State) : Type 0 wher
 abbrev pub IsDecoded : State → List ℕ → Instruction → Type 0
 IsDecoded s code i = NoneHolds (beforeSeven s code) × (decoded code ≡ Fields i)
 
--- "It switches on lane j when j is below its number of lanes and either aaa is 000 or bit j of mask register aaa is one as the step begins."
+-- "It switches on lane j when j is below its number of lanes and either aaa is 000 or bit j of mask register aaa is one as the step
+-- begins."
 -- (A term of document 01.)
 abbrev pub SwitchesOn : State → Instruction → ℕ → Type 0
 SwitchesOn s i j = on s i j ≡ true
@@ -54,7 +55,8 @@ module _ (HiddenLane HiddenByte : ℕ → Type 0) where
   -- in every step of the run that begins here
   abbrev pub HiddenUnusedThroughout : List ℕ → State → List (List ℕ) → Type 0
   HiddenUnusedThroughout memory s [] = Unit {0}
-  HiddenUnusedThroughout memory s (code ∷ codes) = HiddenUnused memory s code × HiddenUnusedThroughout memory (step memory s code .state) codes
+  HiddenUnusedThroughout memory s (code ∷ codes) =
+      HiddenUnused memory s code × HiddenUnusedThroughout memory (step memory s code .state) codes
 
 -- After a step: answers and lengths are equal too.
 pub record AlikeAfter (HiddenLane : ℕ → Type 0) (o₁ o₂ : Stepped) : Type 0 where

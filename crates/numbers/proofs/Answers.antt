@@ -13,6 +13,7 @@ module _ (k : ℕ) (f : Mode → Outcome) {n : ModeNumber} (hn : n ≡ modeOf k)
   unfolding answered
   answer-nine e h = rw (← hn, e) h
 
-  pub answer-done : (m : Mode) → n ≡ Means m → {o : Outcome} → o ≡ f m → r ≡ record { half = o .half; flags = o .flags; number = 0 } → r ≡ answered (modeOf k) f
+  pub answer-done : (m : Mode) → n ≡ Means m → {o : Outcome} → o ≡ f m → r ≡ record { half = o .half; flags = o .flags; number = 0 }
+      → r ≡ answered (modeOf k) f
   unfolding answered
   answer-done m e ho h = rw (← hn, e, ← ho) h

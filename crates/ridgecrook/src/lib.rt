@@ -68,7 +68,12 @@ pub extern "C" fn ridgecrook_step(
     code: &[u8],
     memory: &[u8],
 ) -> Answer
-    ensures { λ r. ⌜ steppedOf r (now (vectors .exit)) (now (masks .exit)) (now (general .entry)) (now (control .exit)) (now (pointer .exit)) ≡ step (now (memory .entry)) (stateOf (now (vectors .entry)) (now (masks .entry)) (now (general .entry)) (now (control .entry)) (now (pointer .entry))) (now (code .entry)) ⌝ }
+    ensures { λ r. ⌜
+        steppedOf r (now (vectors .exit)) (now (masks .exit)) (now (general .entry)) (now (control .exit)) (now (pointer .exit))
+        ≡ step (now (memory .entry))
+        (stateOf (now (vectors .entry)) (now (masks .entry)) (now (general .entry)) (now (control .entry)) (now (pointer .entry)))
+        (now (code .entry))
+        ⌝ }
 {
     step::step(vectors, masks, general, control, pointer, code, memory)
 }
@@ -82,7 +87,10 @@ pub extern "C" fn ridgecrook_save(
     pointer: u64,
     target: &mut [u8],
 ) -> u32
-    ensures { λ r. ⌜ record { number = r; target = now (target .exit) } ≡ save (stateOf (now (vectors .entry)) (now (masks .entry)) (now (general .entry)) control pointer) (now (target .entry)) ⌝ }
+    ensures { λ r. ⌜
+        record { number = r; target = now (target .exit) }
+        ≡ save (stateOf (now (vectors .entry)) (now (masks .entry)) (now (general .entry)) control pointer) (now (target .entry))
+        ⌝ }
 {
     saved::save(vectors, masks, general, control, pointer, target)
 }
@@ -96,7 +104,14 @@ pub extern "C" fn ridgecrook_load(
     control: &mut u32,
     pointer: &mut u64,
 ) -> u32
-    ensures { λ r. ⌜ record { number = r; state = stateOf (now (vectors .exit)) (now (masks .exit)) (now (general .exit)) (now (control .exit)) (now (pointer .exit)) } ≡ load (now (saved .entry)) (stateOf (now (vectors .entry)) (now (masks .entry)) (now (general .entry)) (now (control .entry)) (now (pointer .entry))) ⌝ }
+    ensures { λ r. ⌜
+        record {
+          number = r;
+          state = stateOf (now (vectors .exit)) (now (masks .exit)) (now (general .exit)) (now (control .exit)) (now (pointer .exit));
+        }
+        ≡ load (now (saved .entry))
+        (stateOf (now (vectors .entry)) (now (masks .entry)) (now (general .entry)) (now (control .entry)) (now (pointer .entry)))
+        ⌝ }
 {
     saved::load(saved, vectors, masks, general, control, pointer)
 }

@@ -15,7 +15,8 @@ module _ (s : State) (target : List ℕ) where
   unfolding save
   save-done e = rw e
 
-  pub save-refused : (n : ℕ) → eqb n 0 ≡ false → firstOf (saveConditions s target) 0 ≡ n → save s target ≡ record { number = n; target = target }
+  pub save-refused : (n : ℕ) → eqb n 0 ≡ false → firstOf (saveConditions s target) 0 ≡ n
+      → save s target ≡ record { number = n; target = target }
   unfolding save
   save-refused n h e = rw (e, h)
 

@@ -42,7 +42,8 @@ module _ (bytes : List ℕ) (s : State) where
   unfolding loadConditions wrongVectorFile wrongSize wrongLength
   wrong-long S h = sym (load-refused bytes s 10 refl (rw (S .file, S .total, ne-eqb _ _ h)))
 
-  pub wrong-version : Sized bytes (s .vectors) → numberIn bytes 0 4 ≡ 2253 → (getD bytes 4 0 ≡ 1 → ⊥) → record { number = 10; state = s } ≡ load bytes s
+  pub wrong-version : Sized bytes (s .vectors) → numberIn bytes 0 4 ≡ 2253 → (getD bytes 4 0 ≡ 1 → ⊥)
+      → record { number = 10; state = s } ≡ load bytes s
   unfolding loadConditions wrongVectorFile wrongSize wrongLength wrongVersion
   wrong-version S l h = sym (load-refused bytes s 10 refl (rw (S .file, S .total, l, ne-eqb _ _ h)))
 

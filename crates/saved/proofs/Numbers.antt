@@ -3,7 +3,8 @@
 use Prim.Native.Nat.{ℕ, zero, suc, _+_, _-_, _*_, _/_, _%_, _^_, _≤_, _<_}
 use mathlib.Core.Path.{_≡_, refl, sym, ap, ap₂, _∙_}
 use mathlib.Core.List.{List, [], _∷_, _++_}
-use native.Mathlib.Nat.{pow-suc, pow-succ', pow-le-pow-right, lt-of-lt-of-le, pow-zero, one-le-pow, mul-assoc, add-mul, add-assoc, mod-eq-of-lt}
+use native.Mathlib.Nat.{pow-suc, pow-succ', pow-le-pow-right, lt-of-lt-of-le, pow-zero, one-le-pow, mul-assoc, add-mul, add-assoc}
+use native.Mathlib.Nat.{mod-eq-of-lt}
 use native.Mathlib.Numerals.{add-one}
 use native.Mathlib.Omega.{arith}
 use lib.Arith.{digits-lt, digits-div, digits-mod, mod-mul}
@@ -72,7 +73,8 @@ unfolding big valueFrom
 value-big-from y zero x = omega (arith, pow-zero 256)
 value-big-from y (suc n) x =
     value-big-from (y * 256 + x / 256 ^ n % 256) n x
-    ∙ rw (pow-succ' 256 n, mod-mul x {m = 256} {c = 256 ^ n} (lit≤ tt) (power-pos n)) (shifted y (x / 256 ^ n % 256) (256 ^ n) (x % 256 ^ n))
+    ∙ rw (pow-succ' 256 n, mod-mul x {m = 256} {c = 256 ^ n} (lit≤ tt) (power-pos n))
+    (shifted y (x / 256 ^ n % 256) (256 ^ n) (x % 256 ^ n))
 
 pub value-big : (n x : ℕ) → x < 256 ^ n → valueFrom 0 (big n x) ≡ x
 value-big n x h = value-big-from 0 n x ∙ rw (mod-eq-of-lt h) (omega arith)

@@ -23,7 +23,8 @@ module _ (control pointer : ℕ) (general masks : List ℕ) where
 
   pub length-numbers : length (numbers control pointer general masks) ≡ 204
   unfolding numbers
-  length-numbers = length-append (big 4 control ++ big 8 pointer ++ registers 16 general) (registers 8 masks) ∙ rw (to-general, length-registers 8 masks)
+  length-numbers =
+      length-append (big 4 control ++ big 8 pointer ++ registers 16 general) (registers 8 masks) ∙ rw (to-general, length-registers 8 masks)
 
   pub control-there : take 4 (drop 0 (numbers control pointer general masks)) ≡ big 4 control
   unfolding numbers
@@ -48,7 +49,8 @@ module _ (control pointer : ℕ) (general masks : List ℕ) where
 
   pub masks-there : take 64 (drop 140 (numbers control pointer general masks)) ≡ registers 8 masks
   unfolding numbers
-  masks-there = part-second 140 64 (big 4 control ++ big 8 pointer ++ registers 16 general) (registers 8 masks) to-general (length-registers 8 masks)
+  masks-there =
+      part-second 140 64 (big 4 control ++ big 8 pointer ++ registers 16 general) (registers 8 masks) to-general (length-registers 8 masks)
 
 -- ---- the saved form
 

@@ -1,4 +1,5 @@
--- The statements of specs/Refusals.antt: the number is `firstOf` of the one list of conditions, and each of them has a number that is not 0.
+-- The statements of specs/Refusals.antt: the number is `firstOf` of the one list of conditions, and each of them has a number that is not
+-- 0.
 -- Assumes nothing.
 use Prim.Native.Nat.{ℕ}
 use mathlib.Core.List.{List}

@@ -44,7 +44,8 @@ module _ (f : ℕ → List ℕ) (size : (k : ℕ) → length (f k) ≡ 8) where
   joined-part zero k h = absurd (omega arith)
   joined-part (suc n) k h = rw (joined-next n f) (go (eq-or-lt-of-le {n = k} {m = n} (omega arith)) (joined-part n k))
     where
-      go : (k ≡ n) ⊎ (k < n) → (k < n → take 8 (drop (8 * k) (flatten (table n f))) ≡ f k) → take 8 (drop (8 * k) (flatten (table n f) ++ f n)) ≡ f k
+      go : (k ≡ n) ⊎ (k < n) → (k < n → take 8 (drop (8 * k) (flatten (table n f))) ≡ f k)
+          → take 8 (drop (8 * k) (flatten (table n f) ++ f n)) ≡ f k
       go (inl e) earlier = part-second (8 * k) 8 (flatten (table n f)) (f n) (omega (arith, length-joined n)) (size n) ∙ ap f (sym e)
       go (inr l) earlier = part-first (8 * k) 8 (flatten (table n f)) (f n) (omega (arith, length-joined n)) ∙ earlier l
 
@@ -59,12 +60,15 @@ unfolding registers
 part-registers n values = joined-part (λ k. big 8 (getD values k 0)) (λ k. length-big 8 (getD values k 0)) n
 
 -- read back
-pub read-registers : (n : ℕ) (values : List ℕ) → length values ≡ n → Each (λ x. x < 2 ^ 64) values → table n (λ k. numberIn (registers n values) (8 * k) 8) ≡ values
+pub read-registers : (n : ℕ) (values : List ℕ) → length values ≡ n → Each (λ x. x < 2 ^ 64) values
+    → table n (λ k. numberIn (registers n values) (8 * k) 8) ≡ values
 read-registers n values e h =
-    sym (is-table n _ 0 values e (λ k l. sym (rw (part-registers n values k l) (value-big 8 (getD values k 0) (each-at (λ x. x < 2 ^ 64) values k 0 h (omega arith))))))
+    sym (is-table n _ 0 values e (λ k l. sym (rw (part-registers n values k l)
+    (value-big 8 (getD values k 0) (each-at (λ x. x < 2 ^ 64) values k 0 h (omega arith))))))
 
 -- written back
-pub write-registers : (n : ℕ) (l : List ℕ) → length l ≡ 8 * n → Each (λ b. b < 256) l → registers n (table n (λ k. numberIn l (8 * k) 8)) ≡ l
+pub write-registers : (n : ℕ) (l : List ℕ) → length l ≡ 8 * n → Each (λ b. b < 256) l
+    → registers n (table n (λ k. numberIn l (8 * k) 8)) ≡ l
 unfolding registers
 write-registers n l e h =
     ap flatten (table-equal n (λ k s. rw (getD-table n (λ i. numberIn l (8 * i) 8) k 0 s)
@@ -80,7 +84,8 @@ pub at-most-eight : (k : ℕ) (l : List ℕ) → length (take (8 * (k + 1) - 8 *
 at-most-eight k l = rw (eight k, length-take 8 l) (omega arith)
 
 pub written-register : (n : ℕ) (values part : List ℕ) (k : ℕ) → k < n → length part ≡ 8 * n
-    → big (length (take (8 * (k + 1) - 8 * k) (drop (8 * k) part))) (getD values k 0) ≡ take (8 * (k + 1) - 8 * k) (drop (8 * k) (registers n values))
+    → big (length (take (8 * (k + 1) - 8 * k) (drop (8 * k) part))) (getD values k 0) ≡ take (8 * (k + 1) - 8 * k)
+    (drop (8 * k) (registers n values))
 written-register n values part k h e = rw (eight k, length-part (8 * k) 8 part (omega arith)) (sym (part-registers n values k h))
 
 pub read-register : (n : ℕ) (part : List ℕ) (k : ℕ) → k < n

@@ -14,7 +14,8 @@ use Rattle.machine.specs.Step.{wrongVectorFile, highControlBit}
 use Rattle.saved.specs.Form.{big, registers, numbers, savedForm}
 use Rattle.saved.specs.Saved.{wrongSize, saveConditions, save}
 use Rattle.saved.proofs.Written.{Written, nothing, more, lent, all}
-use Rattle.saved.proofs.Places.{length-numbers, control-there, pointer-there, general-there, masks-there, length-saved, length-there, version-there, numbers-there, vectors-there}
+use Rattle.saved.proofs.Places.{length-numbers, control-there, pointer-there, general-there, masks-there, length-saved, length-there}
+use Rattle.saved.proofs.Places.{version-there, numbers-there, vectors-there}
 use Rattle.saved.proofs.Answered.{save-done, save-refused}
 
 -- ---- the answer after each test
@@ -28,7 +29,8 @@ module _ (s : State) (target : List ℕ) where
   unfolding saveConditions wrongVectorFile wrongSize
   wrong-total f h = sym (save-refused s target 1 refl (rw (f, ne-eqb _ _ h)))
 
-  pub high-control : length (s .vectors) ≡ 2048 → length target ≡ 2257 → 2 ^ 16 ≤ s .control → record { number = 2; target = target } ≡ save s target
+  pub high-control : length (s .vectors) ≡ 2048 → length target ≡ 2257 → 2 ^ 16 ≤ s .control
+      → record { number = 2; target = target } ≡ save s target
   unfolding saveConditions wrongVectorFile wrongSize highControlBit
   high-control f t h = sym (save-refused s target 2 refl (rw (f, t, le-leb _ _ h)))
 
@@ -45,10 +47,12 @@ put at n l p = take at l ++ (p ++ drop n (drop at l))
 
 -- a number was put there
 number-put : {w d l : List ℕ} {at : ℕ} → Written w d l at → (end x : ℕ) (p : List ℕ) → at ≤ end → end ≤ length d
-    → take (end - at) (drop at w) ≡ big (end - at) x → p ≡ big (length (take (end - at) (drop at l))) x → Written w d (put at (end - at) l p) end
+    → take (end - at) (drop at w) ≡ big (end - at) x → p ≡ big (length (take (end - at) (drop at l))) x → Written w d
+    (put at (end - at) l p) end
 number-put W end x p b h e k = more W end p b h (k ∙ rw (lent W end b h) (sym e))
 
-pub numbers-written : (control pointer : ℕ) (general masks d : List ℕ) {p q r t : List ℕ} → length general ≡ 16 → length masks ≡ 8 → length d ≡ 204
+pub numbers-written : (control pointer : ℕ) (general masks d : List ℕ) {p q r t : List ℕ} → length general ≡ 16 → length masks ≡ 8
+    → length d ≡ 204
     → p ≡ big (length (take 4 (drop 0 d))) control
     → q ≡ big (length (take 8 (drop 4 (put 0 4 d p)))) pointer
     → r ≡ registers (length general) general

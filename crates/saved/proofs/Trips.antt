@@ -14,11 +14,13 @@ use Rattle.lists.proofs.First.{none-holds, holds-none}
 use Rattle.machine.specs.State.{State}
 use Rattle.machine.specs.Step.{wrongVectorFile, highControlBit}
 use Rattle.saved.specs.Form.{big, valueFrom, numberIn, registers, numbers, savedForm, loadedState}
-use Rattle.saved.specs.Saved.{wrongSize, saveConditions, Save, save, wrongLength, wrongVersion, loadConditions, Load, load, Held, LoadAfterSave, SaveAfterLoad}
+use Rattle.saved.specs.Saved.{wrongSize, saveConditions, Save, save, wrongLength, wrongVersion, loadConditions, Load, load, Held}
+use Rattle.saved.specs.Saved.{LoadAfterSave, SaveAfterLoad}
 use Rattle.saved.proofs.Slices.{part-part, part-next, length-part, each-part}
 use Rattle.saved.proofs.Numbers.{value-big, big-value}
 use Rattle.saved.proofs.Registers.{read-registers, write-registers}
-use Rattle.saved.proofs.Places.{control-there, pointer-there, general-there, masks-there, length-saved, length-there, version-there, numbers-there, vectors-there}
+use Rattle.saved.proofs.Places.{control-there, pointer-there, general-there, masks-there, length-saved, length-there, version-there}
+use Rattle.saved.proofs.Places.{numbers-there, vectors-there}
 use Rattle.saved.proofs.Loading.{registers-in}
 use Rattle.saved.proofs.Answered.{save-done, load-done}
 use Rattle.saved.proofs.Refusals.{save-non-zero, load-non-zero}
@@ -31,7 +33,8 @@ equal a b h = eqb-true a b (not-false (eqb a b) h)
 
 module _ (s : State) (file : length (s .vectors) ≡ 2048) (low : s .control < 2 ^ 16) (S : Held s) where
   -- a part of the numbers, in the saved form
-  inside : (at n : ℕ) → at + n ≤ 204 → take n (drop (5 + at) (savedForm s)) ≡ take n (drop at (numbers (s .control) (s .pointer) (s .general) (s .masks)))
+  inside : (at n : ℕ) → at + n ≤ 204
+      → take n (drop (5 + at) (savedForm s)) ≡ take n (drop at (numbers (s .control) (s .pointer) (s .general) (s .masks)))
   inside at n h = sym (part-part 5 204 at n (savedForm s) h) ∙ ap (λ (l : List ℕ). take n (drop at l)) (numbers-there s)
 
   control-read : numberIn (savedForm s) 5 4 ≡ s .control
@@ -47,22 +50,33 @@ module _ (s : State) (file : length (s .vectors) ≡ 2048) (low : s .control < 2
   general-read : table 16 (λ k. numberIn (savedForm s) (17 + 8 * k) 8) ≡ s .general
   general-read =
       sym (registers-in (savedForm s) 17 16)
-      ∙ ap (λ (l : List ℕ). table 16 (λ k. numberIn l (8 * k) 8)) (inside 12 128 (lit≤ tt) ∙ general-there (s .control) (s .pointer) (s .general) (s .masks))
+      ∙ ap (λ (l : List ℕ). table 16 (λ k. numberIn l (8 * k) 8))
+      (inside 12 128 (lit≤ tt) ∙ general-there (s .control) (s .pointer) (s .general) (s .masks))
       ∙ read-registers 16 (s .general) (S .generalCount) (S .general)
 
   masks-read : table 8 (λ k. numberIn (savedForm s) (145 + 8 * k) 8) ≡ s .masks
   masks-read =
       sym (registers-in (savedForm s) 145 8)
-      ∙ ap (λ (l : List ℕ). table 8 (λ k. numberIn l (8 * k) 8)) (inside 140 64 (lit≤ tt) ∙ masks-there (s .control) (s .pointer) (s .general) (s .masks))
+      ∙ ap (λ (l : List ℕ). table 8 (λ k. numberIn l (8 * k) 8))
+      (inside 140 64 (lit≤ tt) ∙ masks-there (s .control) (s .pointer) (s .general) (s .masks))
       ∙ read-registers 8 (s .masks) (S .masksCount) (S .masks)
 
   pub state-back : loadedState (savedForm s) ≡ s
   unfolding loadedState
-  state-back = λ i. record { vectors = vectors-there s i; masks = masks-read i; general = general-read i; control = control-read i; pointer = pointer-read i }
+  state-back =
+      λ i. record {
+        vectors = vectors-there s i;
+        masks = masks-read i;
+        general = general-read i;
+        control = control-read i;
+        pointer
+            = pointer-read i;
+      }
 
   version-read : getD (savedForm s) 4 0 ≡ 1
   version-read =
-      sym (getD-take 1 (drop 4 (savedForm s)) 0 0 (lit≤ tt) ∙ getD-drop 4 (savedForm s) 0 0) ∙ ap (λ (l : List ℕ). getD l 0 0) (version-there s)
+      sym (getD-take 1 (drop 4 (savedForm s)) 0 0 (lit≤ tt) ∙ getD-drop 4 (savedForm s) 0 0) ∙ ap (λ (l : List ℕ). getD l 0 0)
+      (version-there s)
 
   none-refuses : (t : State) → wrongVectorFile t ≡ false → NoneHolds (loadConditions (savedForm s) t)
   unfolding loadConditions wrongSize wrongLength wrongVersion highControlBit
@@ -97,12 +111,15 @@ module _ (bytes : List ℕ) (size : length bytes ≡ 2257) (small : Each (λ b. 
   number-back at n h =
       big-value n (take n (drop at bytes)) (length-part at n bytes (omega arith)) (each-part (λ b. b < 256) at n bytes small)
 
-  registers-back : (at n : ℕ) → at + 8 * n ≤ 2257 → registers n (table n (λ k. numberIn bytes (at + 8 * k) 8)) ≡ take (8 * n) (drop at bytes)
+  registers-back : (at n : ℕ) → at + 8 * n ≤ 2257
+      → registers n (table n (λ k. numberIn bytes (at + 8 * k) 8)) ≡ take (8 * n) (drop at bytes)
   registers-back at n h =
       ap (registers n) (sym (registers-in bytes at n))
-      ∙ write-registers n (take (8 * n) (drop at bytes)) (length-part at (8 * n) bytes (omega arith)) (each-part (λ b. b < 256) at (8 * n) bytes small)
+      ∙ write-registers n (take (8 * n) (drop at bytes)) (length-part at (8 * n) bytes (omega arith))
+      (each-part (λ b. b < 256) at (8 * n) bytes small)
 
-  numbers-back : numbers (loadedState bytes .control) (loadedState bytes .pointer) (loadedState bytes .general) (loadedState bytes .masks) ≡ take 204 (drop 5 bytes)
+  numbers-back : numbers (loadedState bytes .control) (loadedState bytes .pointer) (loadedState bytes .general) (loadedState bytes .masks)
+      ≡ take 204 (drop 5 bytes)
   unfolding numbers loadedState
   numbers-back =
       rw (number-back 5 4 (lit≤ tt), number-back 9 8 (lit≤ tt), registers-back 17 16 (lit≤ tt), registers-back 145 8 (lit≤ tt))

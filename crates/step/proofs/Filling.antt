@@ -1,4 +1,5 @@
--- Loops over the indices 0, 1, .., one at each turn: what stands in a list, in or-ed flags or in a test after j turns. The list is a table at the end.
+-- Loops over the indices 0, 1, .., one at each turn: what stands in a list, in or-ed flags or in a test after j turns. The list is a table
+-- at the end.
 -- Assumes nothing.
 use Prim.Native.Nat.{ℕ, _+_, _<_, _≤_}
 use mathlib.Core.Path.{_≡_, refl, sym, ap, _∙_}

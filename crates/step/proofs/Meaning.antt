@@ -19,7 +19,8 @@ use Rattle.lists.specs.Lists.{some, table}
 use Rattle.lists.proofs.Tables.{table-equal, getD-table}
 use Rattle.machine.specs.State.{State, Stepped, registerAt, steppedOf}
 use Rattle.machine.specs.Memory.{isOn, on, nextPointer, bytesRead, needsOutside}
-use Rattle.machine.specs.Lanes.{Sources, roundingMode, unmasked, unmaskedUE, recorded, gathered, registerHalves, firstHalves, secondHalves, results, raised, raisesUnmasked, controlAfter, newRegister, vectorsAfter}
+use Rattle.machine.specs.Lanes.{Sources, roundingMode, unmasked, unmaskedUE, recorded, gathered, registerHalves, firstHalves, secondHalves}
+use Rattle.machine.specs.Lanes.{results, raised, raisesUnmasked, controlAfter, newRegister, vectorsAfter}
 use Rattle.machine.specs.Step.{refused, stopped, completed, step}
 use Rattle.machine.proofs.Ends.{refuses-memory, stops, completes}
 use Rattle.step.specs.declared.lanes.Results.{Results}
@@ -32,7 +33,8 @@ nowhere-off p [] = refl
 nowhere-off p (j ∷ l) = rw (and-false (p j)) (nowhere-off p l)
 
 outside-by : (s : State) (i : Instruction) (length : ℕ) (o : Operand)
-    → outside (on s i) length (s .general) (nextPointer s i) o ≡ some (λ j. on s i j && some (λ a. leb length a) (bytesRead s i o j)) (table 32 (λ j. j))
+    → outside (on s i) length (s .general) (nextPointer s i) o ≡ some (λ j. on s i j && some (λ a. leb length a) (bytesRead s i o j))
+    (table 32 (λ j. j))
 unfolding bytesRead wordsOutside
 outside-by s i length (operand.Register r) = sym (nowhere-off (on s i) (table 32 (λ j. j)))
 outside-by s i length (operand.Memory a broadcast) = refl
@@ -51,12 +53,14 @@ module _ (s : State) (i : Instruction) (g : Sources) where
   unfolding results
   off j h e = getD-table 32 _ j 0 h ∙ rw e
 
-  byte-by : (t u : Bool) (b h k : ℕ) → (t ≡ false → h ≡ 0) → cond (not t && u) b (h / 256 ^ k % 256) ≡ cond t (h / 256 ^ k % 256) (cond u b 0)
+  byte-by : (t u : Bool) (b h k : ℕ) → (t ≡ false → h ≡ 0)
+      → cond (not t && u) b (h / 256 ^ k % 256) ≡ cond t (h / 256 ^ k % 256) (cond u b 0)
   byte-by true u b h k z = refl
   byte-by false true b h k z = refl
   byte-by false false b h k z = rw (z refl, zero-div (256 ^ k))
 
-  stored-is : storedFile (keptBy (on s i) (i .lanes) (i .zeroing)) (results s i g) (i .destination) (s .vectors) ≡ vectorsAfter s i (results s i g)
+  stored-is : storedFile (keptBy (on s i) (i .lanes) (i .zeroing)) (results s i g) (i .destination) (s .vectors)
+      ≡ vectorsAfter s i (results s i g)
   unfolding storedFile storedBytes vectorsAfter newRegister
   stored-is =
       ap (λ (bytes : List ℕ). paste (s .vectors) (registerAt (i .destination)) bytes 64)

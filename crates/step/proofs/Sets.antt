@@ -38,10 +38,12 @@ xor-of (suc zero) (suc (suc y)) h k = absurd (omega arith)
 xor-of (suc (suc x)) y h k = absurd (omega arith)
 
 and-bit : (a b j : ℕ) → isSet (bitAnd a b) j ≡ (isSet a j && isSet b j)
-and-bit a b j = rw (and-shr a b j, and-mod (a / 2 ^ j) (b / 2 ^ j) 1) (and-of (a / 2 ^ j % 2 ^ 1) (b / 2 ^ j % 2 ^ 1) (omega arith) (omega arith))
+and-bit a b j =
+    rw (and-shr a b j, and-mod (a / 2 ^ j) (b / 2 ^ j) 1) (and-of (a / 2 ^ j % 2 ^ 1) (b / 2 ^ j % 2 ^ 1) (omega arith) (omega arith))
 
 xor-bit : (a b j : ℕ) → isSet (bitXor a b) j ≡ differs (isSet a j) (isSet b j)
-xor-bit a b j = rw (xor-shr a b j, xor-mod (a / 2 ^ j) (b / 2 ^ j) 1) (xor-of (a / 2 ^ j % 2 ^ 1) (b / 2 ^ j % 2 ^ 1) (omega arith) (omega arith))
+xor-bit a b j =
+    rw (xor-shr a b j, xor-mod (a / 2 ^ j) (b / 2 ^ j) 1) (xor-of (a / 2 ^ j % 2 ^ 1) (b / 2 ^ j % 2 ^ 1) (omega arith) (omega arith))
 
 -- ---- the bits of 2 ^ n - 1: those below n
 
@@ -72,10 +74,12 @@ same-sets h = λ i j. h j i
 pub on-all : (masks : List ℕ) (mask lanes : ℕ) → mask ≡ 0 → isSet (2 ^ lanes - 1) ≡ isOn masks mask lanes
 on-all masks mask lanes e = same-sets (λ j. rw (ones-bit lanes j, e) (sym (and-true (ltb j lanes))))
 
-pub on-some : (masks : List ℕ) (mask lanes : ℕ) → (mask ≡ 0 → ⊥) → isSet (bitAnd (getD masks mask 0) (2 ^ lanes - 1)) ≡ isOn masks mask lanes
+pub on-some : (masks : List ℕ) (mask lanes : ℕ) → (mask ≡ 0 → ⊥)
+    → isSet (bitAnd (getD masks mask 0) (2 ^ lanes - 1)) ≡ isOn masks mask lanes
 on-some masks mask lanes n =
     same-sets
-    (λ j. rw (and-bit (getD masks mask 0) (2 ^ lanes - 1) j, ones-bit lanes j, ne-eqb mask 0 n) (and-comm (isSet (getD masks mask 0) j) (ltb j lanes)))
+    (λ j. rw (and-bit (getD masks mask 0) (2 ^ lanes - 1) j, ones-bit lanes j, ne-eqb mask 0 n)
+    (and-comm (isSet (getD masks mask 0) j) (ltb j lanes)))
 
 -- no lane with zeroing, or else those below the number of lanes that are off
 no-bit : (j : ℕ) → isSet 0 j ≡ false

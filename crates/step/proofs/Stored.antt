@@ -33,14 +33,17 @@ module _ (kept : ℕ → Bool) (halves d : List ℕ) (j : ℕ) where
       rw (twice, e) (go (kept j) refl)
     where
       go : (t : Bool) → kept j ≡ t
-          → Filled (byteWhere kept halves d) 64 d (cond t l (set (set l (2 * j) (getD halves j 0 % 256)) (2 * j + 1) (getD halves j 0 / 256 % 256))) (2 * j + 1 + 1)
+          → Filled (byteWhere kept halves d) 64 d (cond t l
+          (set (set l (2 * j) (getD halves j 0 % 256)) (2 * j + 1) (getD halves j 0 / 256 % 256))) (2 * j + 1 + 1)
       go true k = same (same F (omega arith) (sym (rw k at even))) (omega arith) (sym (rw k at odd))
       go false k = more (more F (omega arith) (sym (rw k at even))) (omega arith) (sym (rw k at odd))
 
 -- the register's bytes in the place of the old ones
 pub pasted : (kept : ℕ → Bool) (halves file : List ℕ) (n : ℕ)
-    → take (n * 64) file ++ (storedBytes kept halves (take 64 (drop (n * 64) file)) ++ drop 64 (drop (n * 64) file)) ≡ storedFile kept halves n file
+    → take (n * 64) file ++ (storedBytes kept halves (take 64 (drop (n * 64) file)) ++ drop 64 (drop (n * 64) file)) ≡ storedFile kept
+    halves n file
 unfolding storedFile storedBytes
 pasted kept halves file n =
     let old = take 64 (drop (n * 64) file) in
-    rw (drop-drop 64 (n * 64) file) (sym (paste-whole file (n * 64) (storedBytes kept halves old) 64 (length-table 64 (byteWhere kept halves old))))
+    rw (drop-drop 64 (n * 64) file) (sym (paste-whole file (n * 64) (storedBytes kept halves old) 64
+    (length-table 64 (byteWhere kept halves old))))

@@ -91,7 +91,10 @@ pub(crate) fn second_halves(
     next: u64,
     second: Operand,
 ) -> [u16; 32]
-    requires { ⌜ (length (now vectors) ≡ 2048) × OperandIn second × (outside (isSet on) (length (now memory)) (now general) next second ≡ false) ⌝ }
+    requires { ⌜
+        (length (now vectors) ≡ 2048) × OperandIn second
+        × (outside (isSet on) (length (now memory)) (now general) next second ≡ false)
+        ⌝ }
     ensures { λ r. ⌜ r ≡ secondHalves (isSet on) (now (vectors .entry)) (now (memory .entry)) (now (general .entry)) next second ⌝ }
 {
     match second {

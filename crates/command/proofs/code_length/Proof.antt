@@ -27,7 +27,12 @@ add-result : tie.Need-add-result
 add-result c = search needs
 
 returns : tie.Need-returns
-returns c = (ap₂ (λ (a b : ℕ). a * 256 + b) (c .before .before .wide .ensures .0) (c .wide2 .ensures .0) ∙ two-bytes (c .before .before .before .before .before .args .input .now) (c .before .before .before .before .before .pre), omega arith)
+returns c =
+    let start : tie.Start = c .before .before .before .before .before in (
+      ap₂ (λ (a b : ℕ). a * 256 + b) (c .before .before .wide .ensures .0) (c .wide2 .ensures .0) ∙ two-bytes (start .args .input .now)
+          (start .pre),
+      omega arith,
+    )
 
 pub code-length-spec : {M : Type 1} → statement M
 code-length-spec =

@@ -26,9 +26,15 @@ same-length c = search needs
 returns-2 : tie.Need-returns-2
 unfolding commanded
 returns-2 c =
-    let long : room ≤ length (c .before .before .before .before .before .before .before .args .output .now) = omega arith in
+    let start : tie.Start = c .before .before .before .before .before .before .before in
+    let long : room ≤ length (start .args .output .now) = omega arith in
     rw (le-leb room _ long)
-    (wrote (omega (arith, prints .fits (c .before .before .before .before .before .before .before .args .input .now), c .before .before .print .ensures .place, c .before .before .print .kept .1 .0)) (c .before .before .print .ensures))
+    (wrote (omega (
+      arith,
+      prints .fits (start .args .input .now),
+      c .before .before .print .ensures .place,
+      c .before .before .print .kept .1 .0,
+    )) (c .before .before .print .ensures))
 
 pub command-spec : {M : Type 1} → statement M
 command-spec = tie.close (tie.spec returns print-requires same-length returns-2)

@@ -30,7 +30,13 @@ returns-3 : tie.Need-returns-3
 unfolding isLaidOut
 returns-3 c =
     let short : c .before .before .code-length .result ≤ 4096 = omega arith in
-    rw (le-leb 2259 _ (c .before .before .before .if1 .left), ← c .before .before .code-length .ensures .0, le-leb _ 4096 short, lt-leb _ _ (c .if3 .taken))
+    rw (
+      le-leb 2259 _ (c .before .before .before .if1 .left),
+      ← c .before .before .code-length .ensures .0,
+      le-leb _ 4096 short,
+      lt-leb _ _
+          (c .if3 .taken),
+    )
 
 sub-result : tie.Need-sub-result
 sub-result c = search needs
@@ -39,7 +45,14 @@ returns-4 : tie.Need-returns-4
 unfolding isLaidOut
 returns-4 c =
     let short : c .before .before .code-length .result ≤ 4096 = omega arith in
-    rw (le-leb 2259 _ (c .before .before .before .if1 .left), ← c .before .before .code-length .ensures .0, le-leb _ 4096 short, le-leb _ _ (c .if3 .left), length-drop) refl
+    rw (
+      le-leb 2259 _ (c .before .before .before .if1 .left),
+      ← c .before .before .code-length .ensures .0,
+      le-leb _ 4096 short,
+      le-leb _ _
+          (c .if3 .left),
+      length-drop,
+    ) refl
 
 pub is-laid-out-spec : {M : Type 1} → statement M
 is-laid-out-spec =

@@ -33,7 +33,11 @@ same-length c = search needs
 
 returns : tie.Need-returns
 unfolding badInput
-returns c = rw (bad-layout (c .before .before .before .before .before .before .before .before .before .args .input .now) (sym (c .before .before .before .before .before .before .is-laid-out .ensures) ∙ not-true _ (c .before .before .before .before .before .if1 .taken))) (c .before .before .put-text .ensures)
+returns c =
+    let start : tie.Start = c .before .before .before .before .before .before .before .before .before in
+    let is-laid-out = c .before .before .before .before .before .before .is-laid-out in
+    let if1 = c .before .before .before .before .before .if1 in
+    rw (bad-layout (start .args .input .now) (sym (is-laid-out .ensures) ∙ not-true _ (if1 .taken))) (c .before .before .put-text .ensures)
 
 sub-load : tie.Need-sub-load
 sub-load c = search needs
@@ -62,7 +66,13 @@ same-length-2 c = search needs
 returns-2 : tie.Need-returns-2
 unfolding badInput blank table
 returns-2 c =
-    rw (bad-load (c .before .before .before .before .before .before .before .before .before .before .before .before .before .before .before .before .before .before .args .input .now) (laid (c .before .before .before .before .before .before .before .before .before .before .before .before .before .before)) _ _ (c .before .before .before .before .before .before .before .load .ensures) (c .before .before .before .before .before .if2 .taken)) (c .before .before .put-text2 .ensures)
+    let far = c .before .before .before .before .before .before .before .before .before .before in
+    let start : tie.Start = far .before .before .before .before .before .before .before .before in
+    let load = c .before .before .before .before .before .before .before .load in
+    let if2 = c .before .before .before .before .before .if2 in
+    rw (bad-load (start .args .input .now) (laid
+    (c .before .before .before .before .before .before .before .before .before .before .before .before .before .before)) _ _
+    (load .ensures) (if2 .taken)) (c .before .before .put-text2 .ensures)
 
 code-length-requires : tie.Need-code-length-requires
 code-length-requires c κs = parts (c .before .before .before .before .before .before .before .before .before) .head
@@ -80,20 +90,36 @@ part-put-lines-start : tie.Need-part-put-lines-start
 part-put-lines-start c = search needs
 
 part-put-lines-end : tie.Need-part-put-lines-end
-part-put-lines-end c = omega (arith, parts (c .before .before .before .before .before .before .before .before .before .before .before .before .before .before .before), c .before .before .before .before .before .code-length .ensures .0)
+part-put-lines-end c =
+    let code-length = c .before .before .before .before .before .code-length in
+    omega (arith, parts (c .before .before .before .before .before .before .before .before .before .before .before .before .before .before .before), code-length .ensures .0)
 
 sub-put-lines-2 : tie.Need-sub-put-lines-2
-sub-put-lines-2 c = omega (arith, parts (c .before .before .before .before .before .before .before .before .before .before .before .before .before .before .before .before), c .before .before .before .before .before .before .code-length .ensures .0)
+sub-put-lines-2 c =
+    let code-length = c .before .before .before .before .before .before .code-length in
+    omega (arith, parts (c .before .before .before .before .before .before .before .before .before .before .before .before .before .before .before .before), code-length .ensures .0)
 
 part-put-lines-start-2 : tie.Need-part-put-lines-start-2
-part-put-lines-start-2 c = omega (arith, parts (c .before .before .before .before .before .before .before .before .before .before .before .before .before .before .before .before), c .before .before .before .before .before .before .code-length .ensures .0)
+part-put-lines-start-2 c =
+    let code-length = c .before .before .before .before .before .before .code-length in
+    omega (arith, parts (c .before .before .before .before .before .before .before .before .before .before .before .before .before .before .before .before), code-length .ensures .0)
 
 part-put-lines-end-2 : tie.Need-part-put-lines-end-2
 part-put-lines-end-2 c = search needs
 
 put-lines-requires : tie.Need-put-lines-requires
 put-lines-requires c κs =
-    (simp (length-take, length-drop) (omega (arith, parts (c .before .before .before .before .before .before .before .before .before .before .before .before .before .before .before .before .before .before), c .before .before .before .before .before .before .before .before .code-length .ensures .0)), c .before .before .before .before .before .before .before .before .before .before .before .before .before .before .before .before .before .before .before .before .before .before .pre)
+    let far = c .before .before .before .before .before .before .before .before .before .before in
+    let start : tie.Start = far .before .before .before .before .before .before .before .before .before .before .before .before in
+    let code-length = c .before .before .before .before .before .before .before .before .code-length in (
+      simp (length-take, length-drop) (omega (
+        arith,
+        parts
+            (c .before .before .before .before .before .before .before .before .before .before .before .before .before .before .before .before .before .before),
+        code-length .ensures .0,
+      )),
+      start .pre,
+    )
 
 same-length-3 : tie.Need-same-length-3
 same-length-3 c = search needs
@@ -101,7 +127,13 @@ same-length-3 c = search needs
 returns-3 : tie.Need-returns-3
 unfolding blank table
 returns-3 c =
-    rw (good-lines (c .before .before .before .before .before .before .before .before .before .before .before .before .before .before .before .before .before .before .before .before .before .before .before .before .before .before .args .input .now) (laid (c .before .before .before .before .before .before .before .before .before .before .before .before .before .before .before .before .before .before .before .before .before .before)) _ _ (c .before .before .before .before .before .before .before .before .before .before .before .before .before .before .before .load .ensures) (c .before .before .before .before .before .before .before .before .before .before .before .before .before .if2 .left) (c .before .before .before .before .before .before .before .before .before .before .before .before .code-length .result) (c .before .before .before .before .before .before .before .before .before .before .before .before .code-length .ensures .0))
+    let far = c .before .before .before .before .before .before .before .before .before .before in
+    let start : tie.Start = far .before .before .before .before .before .before .before .before .before .before .before .before .before .before .before .before in
+    let load = far .before .before .before .before .before .load in
+    let if2 = far .before .before .before .if2 in
+    let code-length = far .before .before .code-length in
+    rw (good-lines (start .args .input .now) (laid
+    (c .before .before .before .before .before .before .before .before .before .before .before .before .before .before .before .before .before .before .before .before .before .before)) _ _ (load .ensures) (if2 .left) (code-length .result) (code-length .ensures .0))
     (c .before .before .before .put-lines .ensures)
 
 pub print-spec : {M : Type 1} → statement M

@@ -1,4 +1,5 @@
--- `command::put_lines` meets its contract: `Going` is the loop's invariant, with a law for each way on; the measure is what is left of the code.
+-- `command::put_lines` meets its contract: `Going` is the loop's invariant, with a law for each way on; the measure is what is left of the
+-- code.
 -- Assumes nothing.
 use Prim.Native.Nat.{_-_, _≤_}
 use mathlib.Core.Path.{_≡_, _∙_}
@@ -26,40 +27,76 @@ loop-holds : tie.Need-loop-holds Inv-loop μ-loop
 loop-holds c = starts _ _ _ _
 
 put-step-requires : tie.Need-put-step-requires Inv-loop μ-loop
-put-step-requires c κs = omega (arith, c .before .before .before .before .before .before .loop .inv, c .before .before .before .before .before .before .before .before .before .before .before .pre)
+put-step-requires c κs =
+    let start = c .before .before .before .before .before .before .before .before .before .before .before in
+    let loop = c .before .before .before .before .before .before .loop in
+    omega (arith, loop .inv, start .pre)
 
 put-stop-line-requires : tie.Need-put-stop-line-requires Inv-loop μ-loop
 put-stop-line-requires c κs =
-    stop-fits (c .before .before .before .before .before .before .before .before .before .before .before .before .before .before .before .loop .inv) (c .before .before .before .before .before .before .before .before .put-step .ensures .0)
-    (c .before .before .before .before .before .before .before .before .before .before .before .before .before .before .loop-test .taken) (c .before .before .before .before .before .before .before .before .put-step .ensures .1)
-    (c .before .before .before .before .before .before .before .before .before .before .before .before .before .before .before .before .before .before .before .before .pre .0) (c .before .before .before .before .before .before .before .before .put-step .kept .1 .1 .1 .1 .1 .1 .1 .1 .0) (c .before .before .before .before .before .before .before .before .before .before .before .before .before .before .before .before .before .before .before .before .pre .1)
+    let far = c .before .before .before .before .before .before .before .before .before .before in
+    let start = far .before .before .before .before .before .before .before .before .before .before in
+    let loop = far .before .before .before .before .before .loop in
+    let put-step = c .before .before .before .before .before .before .before .before .put-step in
+    let loop-test = far .before .before .before .before .loop-test in
+    stop-fits (loop .inv) (put-step .ensures .0)
+    (loop-test .taken) (put-step .ensures .1)
+    (start .pre .0) (put-step .kept .1 .1 .1 .1 .1 .1 .1 .1 .0) (start .pre .1)
 
 same-length : tie.Need-same-length Inv-loop μ-loop
-same-length c = c .before .before .before .before .before .before .before .before .before .before .before .put-step .kept .0 ∙ c .before .before .before .before .before .before .before .before .before .before .before .before .before .before .before .before .before .before .loop .inv .file
+same-length c =
+    let far = c .before .before .before .before .before .before .before .before .before .before in
+    let put-step = far .before .put-step in
+    let loop = far .before .before .before .before .before .before .before .before .loop in
+    put-step .kept .0 ∙ loop .inv .file
 
 same-length-2 : tie.Need-same-length-2 Inv-loop μ-loop
-same-length-2 c = c .before .before .put-stop-line .kept .0 ∙ c .before .before .before .before .before .before .before .before .before .before .before .put-step .kept .1 .1 .1 .1 .1 .1 .1 .1 .0 ∙ c .before .before .before .before .before .before .before .before .before .before .before .before .before .before .before .before .before .before .loop .inv .size
+same-length-2 c =
+    let far = c .before .before .before .before .before .before .before .before .before .before in
+    let put-step = far .before .put-step in
+    let loop = far .before .before .before .before .before .before .before .before .loop in
+    c .before .before .put-stop-line .kept .0 ∙ put-step .kept .1 .1 .1 .1 .1 .1 .1 .1 .0 ∙ loop .inv .size
 
 returns : tie.Need-returns Inv-loop μ-loop
 returns c =
-    halts (c .before .before .before .before .before .before .before .before .before .before .before .before .before .before .before .before .before .before .loop .inv) (c .before .before .before .before .before .before .before .before .before .before .before .put-step .ensures .0)
-    (c .before .before .before .before .before .before .before .before .before .before .before .before .before .before .before .before .before .loop-test .taken) (c .before .before .before .before .before .before .before .before .before .before .before .put-step .ensures .1)
-    (c .before .before .before .before .if1 .taken) (c .before .before .put-stop-line .ensures)
+    let far = c .before .before .before .before .before .before .before .before .before .before in
+    let loop = far .before .before .before .before .before .before .before .before .loop in
+    let put-step = far .before .put-step in
+    let loop-test = far .before .before .before .before .before .before .before .loop-test in
+    let if1 = c .before .before .before .before .if1 in
+    halts (loop .inv) (put-step .ensures .0)
+    (loop-test .taken) (put-step .ensures .1)
+    (if1 .taken) (c .before .before .put-stop-line .ensures)
 
 cast-offset : tie.Need-cast-offset Inv-loop μ-loop
 cast-offset c = omega (arith, six-to-eleven (c .before .before .before .before .before .before .before .before) (c .before .if1 .left))
 
 add-offset : tie.Need-add-offset Inv-loop μ-loop
-add-offset c = omega (arith, six-to-eleven (c .before .before .before .before .before .before .before .before) (c .before .if1 .left), c .before .before .before .before .before .before .before .before .before .before .before .before .before .before .before .loop .inv)
+add-offset c =
+    let far = c .before .before .before .before .before .before .before .before .before .before in
+    let loop = far .before .before .before .before .before .loop in
+    omega (arith, six-to-eleven (c .before .before .before .before .before .before .before .before) (c .before .if1 .left), loop .inv)
 
 loop-less : tie.Need-loop-less Inv-loop μ-loop
-loop-less c = omega (arith, six-to-eleven (c .before .before .before .before .before .before .before .before) (c .before .if1 .left), c .before .before .before .before .before .before .before .before .before .before .before .before .before .before .loop-test .taken)
+loop-less c =
+    let far = c .before .before .before .before .before .before .before .before .before .before in
+    let loop-test = far .before .before .before .before .loop-test in
+    omega (
+      arith,
+      six-to-eleven (c .before .before .before .before .before .before .before .before) (c .before .if1 .left),
+      loop-test .taken,
+    )
 
 loop-again : tie.Need-loop-again Inv-loop μ-loop
 loop-again c =
-    goes (c .before .before .before .before .before .before .before .before .before .before .before .before .before .before .before .loop .inv) (c .before .before .before .before .before .before .before .before .put-step .ensures .0)
-    (c .before .before .before .before .before .before .before .before .before .before .before .before .before .before .loop-test .taken) (c .before .before .before .before .before .before .before .before .put-step .ensures .1)
-    (c .before .before .before .before .before .before .before .before .before .before .before .before .before .before .before .before .before .before .before .before .pre .0) (c .before .before .before .before .before .before .before .before .put-step .kept .1 .1 .1 .1 .1 .1 .1 .1 .0) (c .before .if1 .left) (c .before .before .before .before .before .before .before .before .put-step .kept .0)
+    let far = c .before .before .before .before .before .before .before .before .before .before in
+    let start = far .before .before .before .before .before .before .before .before .before .before in
+    let loop = far .before .before .before .before .before .loop in
+    let put-step = c .before .before .before .before .before .before .before .before .put-step in
+    let loop-test = far .before .before .before .before .loop-test in
+    goes (loop .inv) (put-step .ensures .0)
+    (loop-test .taken) (put-step .ensures .1)
+    (start .pre .0) (put-step .kept .1 .1 .1 .1 .1 .1 .1 .1 .0) (c .before .if1 .left) (put-step .kept .0)
 
 put-stop-line-requires-2 : tie.Need-put-stop-line-requires-2 Inv-loop μ-loop
 put-stop-line-requires-2 c κs = omega (arith, c .before .before .loop .inv, c .before .before .before .before .before .before .before .pre)
@@ -71,7 +108,10 @@ same-length-4 : tie.Need-same-length-4 Inv-loop μ-loop
 same-length-4 c = c .before .before .put-stop-line2 .kept .0 ∙ c .before .before .before .before .before .loop .inv .size
 
 returns-2 : tie.Need-returns-2 Inv-loop μ-loop
-returns-2 c = ends (c .before .before .before .before .before .loop .inv) (c .before .before .before .before .loop-test .left) (c .before .before .put-stop-line2 .ensures)
+returns-2 c =
+    let loop = c .before .before .before .before .before .loop in
+    let loop-test = c .before .before .before .before .loop-test in
+    ends (loop .inv) (loop-test .left) (c .before .before .put-stop-line2 .ensures)
 
 pub put-lines-spec : {M : Type 1} → statement M
 put-lines-spec =

@@ -27,7 +27,11 @@ same-length-2 : tie.Need-same-length-2
 same-length-2 c = search needs
 
 returns : tie.Need-returns
-returns c = (rw (to-end (c .before .before .before .before .before .before .before .before .before .before .before .before .before .before .before .before .before .args .offset) (c .before .before .before .before .before .before .before .before .before .before .before .before .before .before .before .before .before .args .code .now)) at (c .before .before .before .before .before .before .before .step .ensures), c .before .before .put-step-line .ensures)
+returns c =
+    let far = c .before .before .before .before .before .before .before .before .before .before in
+    let start : tie.Start = far .before .before .before .before .before .before .before in
+    let step = c .before .before .before .before .before .before .before .step in
+    (rw (to-end (start .args .offset) (start .args .code .now)) at (step .ensures), c .before .before .put-step-line .ensures)
 
 pub put-step-spec : {M : Type 1} → statement M
 put-step-spec =

@@ -4,7 +4,8 @@ use mir.Syntax.{w32}
 use mir.Facts.{toZ-ofZ}
 use mathlib.Core.Path.{sym, _∙_}
 use denote.Ref.{now}
-use Rattle.evex.proofs.Order.{Begun, Headed, Rowed, no-bytes, first-byte, few-bytes, fixed-bits, unlisted, reserved, missing, too-long, accepted}
+use Rattle.evex.proofs.Order.{Begun, Headed, Rowed, no-bytes, first-byte, few-bytes, fixed-bits, unlisted, reserved, missing}
+use Rattle.evex.proofs.Order.{too-long, accepted}
 use borrow.Author.Needs.{needs}
 use Rattle.evex.proofs.decode.Statement.{statement}
 use Rattle.evex.proofs.decode.Tie as tie
@@ -13,7 +14,8 @@ use Rattle.evex.proofs.decode.Tie as tie
 begun : (c : tie.Else3) → Begun (now (c .before .before .before .before .before .args .code))
 begun c = record { some = c .before .before .before .if1 .left; evex = c .before .if2 .left; six = omega arith }
 
-headed : (c : tie.Else4) → Headed (now (c .before .before .before .before .before .before .before .before .args .code)) (c .before .before .of .result)
+headed : (c : tie.Else4)
+    → Headed (now (c .before .before .before .before .before .before .before .before .args .code)) (c .before .before .of .result)
 headed c =
     record {
       begun = begun (c .before .before .before);
@@ -41,7 +43,9 @@ returns-2 : tie.Need-returns-2
 returns-2 c = first-byte _ (c .before .before .if1 .left) (c .if2 .taken)
 
 returns-3 : tie.Need-returns-3
-returns-3 c = few-bytes (now (c .before .before .before .before .before .args .code)) (c .before .before .before .if1 .left) (c .before .if2 .left) (omega arith)
+returns-3 c =
+    few-bytes (now (c .before .before .before .before .before .args .code)) (c .before .before .before .if1 .left) (c .before .if2 .left)
+    (omega arith)
 
 of-requires : tie.Need-of-requires
 of-requires c κs = search needs
@@ -50,7 +54,9 @@ has-wrong-fixed-bits-requires : tie.Need-has-wrong-fixed-bits-requires
 has-wrong-fixed-bits-requires c κs = search needs
 
 returns-4 : tie.Need-returns-4
-returns-4 c = fixed-bits (begun (c .before .before .before)) (c .before .before .of .ensures) (sym (c .before .has-wrong-fixed-bits .ensures) ∙ c .if4 .taken)
+returns-4 c =
+    fixed-bits (begun (c .before .before .before)) (c .before .before .of .ensures)
+    (sym (c .before .has-wrong-fixed-bits .ensures) ∙ c .if4 .taken)
 
 listed-requires : tie.Need-listed-requires
 listed-requires c κs = search needs
@@ -90,12 +96,14 @@ instruction-requires c κs = search needs
 
 returns-9 : tie.Need-returns-9
 returns-9 c =
+    let size = c .before .before .before .before .size in
     rw (
       c .instruction .ensures,
       toZ-ofZ {w = w32} {z = c .before .displacement .result} (record { sfits = c .before .displacement .ok }),
       c .before .displacement .ensures,
     )
-    (accepted (rowed (c .before .before .before .before .before)) (c .before .before .before .before .size .ensures) (c .before .before .before .if6 .left) (c .before .before .if7 .left))
+    (accepted (rowed (c .before .before .before .before .before)) (size .ensures) (c .before .before .before .if6 .left)
+    (c .before .before .if7 .left))
 
 pub decode-spec : {M : Type 1} → statement M
 decode-spec =

@@ -16,7 +16,9 @@ refused-requires : tie.Need-refused-requires
 refused-requires c κs = search needs
 
 returns : tie.Need-returns
-returns c = answer-nine (c .before .before .before .before .args .mode) _ (c .before .before .before .mode-of .ensures) (c .before .enum-told .given .1) (c .refused .ensures)
+returns c =
+    answer-nine (c .before .before .before .before .args .mode) _ (c .before .before .before .mode-of .ensures)
+    (c .before .enum-told .given .1) (c .refused .ensures)
 
 square-root-requires : tie.Need-square-root-requires
 square-root-requires c κs = search needs
@@ -25,7 +27,10 @@ done-requires : tie.Need-done-requires
 done-requires c κs = search needs
 
 returns-2 : tie.Need-returns-2
-returns-2 c = answer-done (c .before .before .before .before .before .before .args .mode) _ (c .before .before .before .before .before .mode-of .ensures) _ (c .before .before .before .m .given .1) (c .before .square-root .ensures) (c .done .ensures)
+returns-2 c =
+    let mode-of = c .before .before .before .before .before .mode-of in
+    answer-done (c .before .before .before .before .before .before .args .mode) _ (mode-of .ensures) _
+    (c .before .before .before .m .given .1) (c .before .square-root .ensures) (c .done .ensures)
 
 pub square-root-spec : {M : Type 1} → statement M
 square-root-spec =

@@ -8,10 +8,13 @@ use Rattle.saved.proofs.load.Statement.{statement}
 use Rattle.saved.proofs.load.Tie as tie
 
 -- what the tests have shown, at the places where they have
-sized : (c : tie.Else2) → Sized (now (c .before .before .before .before .args .saved)) (now (c .before .before .before .before .args .vectors))
+sized : (c : tie.Else2)
+    → Sized (now (c .before .before .before .before .args .saved)) (now (c .before .before .before .before .args .vectors))
 sized c = record { file = c .before .if1 .left; total = c .if2 .left }
 
-headed : (c : tie.Else4) → Headed (now (c .before .before .before .before .before .before .before .before .before .args .saved)) (now (c .before .before .before .before .before .before .before .before .before .args .vectors))
+headed : (c : tie.Else4)
+    → Headed (now (c .before .before .before .before .before .before .before .before .before .args .saved))
+    (now (c .before .before .before .before .before .before .before .before .before .args .vectors))
 headed c =
     record {
       sized = sized (c .before .before .before .before .before);
@@ -44,7 +47,9 @@ shared-slice-read-if4 : tie.Need-shared-slice-read-if4
 shared-slice-read-if4 c = search needs
 
 returns-4 : tie.Need-returns-4
-returns-4 c = wrong-version _ _ (sized (c .before .before .before .before .before)) (sym (c .before .before .before .read-number .ensures) ∙ c .before .before .if3 .left) (c .if4 .taken)
+returns-4 c =
+    wrong-version _ _ (sized (c .before .before .before .before .before))
+    (sym (c .before .before .before .read-number .ensures) ∙ c .before .before .if3 .left) (c .if4 .taken)
 
 sub-read-number-2 : tie.Need-sub-read-number-2
 sub-read-number-2 c = search needs
@@ -117,17 +122,23 @@ same-length c = search needs
 
 returns-6 : tie.Need-returns-6
 returns-6 c =
+    let far = c .before .before .before .before .before .before .before .before .before .before in
+    let read-number2 = far .before .before .before .before .read-number2 in
+    let if2 = far .before .before .before .before .before .before .before .before .before .before .before .if2 in
+    let read-number3 = far .before .read-number3 in
+    let read-registers = c .before .before .before .before .before .before .before .before .read-registers in
+    let read-registers2 = c .before .before .before .before .before .read-registers2 in
     loaded _ _
     (headed (c .before .before .before .before .before .before .before .before .before .before .before .before .before .before .before .before))
-    (omega (arith, c .before .before .before .before .before .before .before .before .before .before .before .before .before .before .read-number2 .ensures))
+    (omega (arith, read-number2 .ensures))
     (state-read _
-    (c .before .before .before .before .before .before .before .before .before .before .before .before .before .before .before .before .before .before .before .before .before .if2 .left)
+    (if2 .left)
     (omega arith)
     (omega arith)
-    (c .before .before .before .before .before .before .before .before .before .before .before .before .before .before .read-number2 .ensures)
-    (c .before .before .before .before .before .before .before .before .before .before .before .read-number3 .ensures)
-    (c .before .before .before .before .before .before .before .before .read-registers .ensures)
-    (c .before .before .before .before .before .read-registers2 .ensures)
+    (read-number2 .ensures)
+    (read-number3 .ensures)
+    (read-registers .ensures)
+    (read-registers2 .ensures)
     (c .before .before .copy .ensures))
 
 pub load-spec : {M : Type 1} → statement M

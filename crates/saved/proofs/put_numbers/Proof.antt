@@ -58,16 +58,21 @@ same-length c = search needs
 
 returns : tie.Need-returns
 returns c =
+    let far = c .before .before .before .before .before .before .before .before .before .before in
+    let start : tie.Start = far .before .before .before .before .before .before .before .before .before in
+    let put-number = far .before .before .before .before .before .before .put-number in
+    let put-number2 = far .before .before .put-number2 in
+    let put-registers = c .before .before .before .before .before .before .before .put-registers in
     numbers-written _ _
-    (c .before .before .before .before .before .before .before .before .before .before .before .before .before .before .before .before .before .before .before .args .general .now)
-    (c .before .before .before .before .before .before .before .before .before .before .before .before .before .before .before .before .before .before .before .args .masks .now)
-    (c .before .before .before .before .before .before .before .before .before .before .before .before .before .before .before .before .before .before .before .args .part .now)
+    (start .args .general .now)
+    (start .args .masks .now)
+    (start .args .part .now)
     (omega arith)
     (omega arith)
-    (c .before .before .before .before .before .before .before .before .before .before .before .before .before .before .before .before .before .before .before .pre)
-    (c .before .before .before .before .before .before .before .before .before .before .before .before .before .before .before .before .put-number .ensures)
-    (c .before .before .before .before .before .before .before .before .before .before .before .before .put-number2 .ensures)
-    (c .before .before .before .before .before .before .before .put-registers .ensures)
+    (start .pre)
+    (put-number .ensures)
+    (put-number2 .ensures)
+    (put-registers .ensures)
     (c .before .before .put-registers2 .ensures)
 
 pub put-numbers-spec : {M : Type 1} → statement M

@@ -66,17 +66,25 @@ same-length c = search needs
 
 returns-4 : tie.Need-returns-4
 returns-4 c =
+    let far = c .before .before .before .before .before .before .before .before .before .before in
+    let start : tie.Start = far .before .before .before .before .before .before .before .before .before .before .before in
+    let if1 = far .before .before .before .before .before .before .before .before .if1 in
+    let if2 = far .before .before .before .before .before .before .before .if2 in
+    let if3 = far .before .before .before .before .before .before .if3 in
+    let put-number = far .before .before .before .before .put-number in
+    let put-number2 = c .before .before .before .before .before .before .before .before .before .before .put-number2 in
+    let put-numbers = c .before .before .before .before .before .before .put-numbers in
     saved _ _
-    (c .before .before .before .before .before .before .before .before .before .before .before .before .before .before .before .before .before .before .if1 .left)
-    (c .before .before .before .before .before .before .before .before .before .before .before .before .before .before .before .before .before .if2 .left)
-    (c .before .before .before .before .before .before .before .before .before .before .before .before .before .before .before .before .if3 .left)
+    (if1 .left)
+    (if2 .left)
+    (if3 .left)
     (form-written _
-    (c .before .before .before .before .before .before .before .before .before .before .before .before .before .before .before .before .before .before .before .before .before .args .target .now)
-    (c .before .before .before .before .before .before .before .before .before .before .before .before .before .before .before .before .before .before .if1 .left)
-    (c .before .before .before .before .before .before .before .before .before .before .before .before .before .before .before .before .before .if2 .left)
-    (c .before .before .before .before .before .before .before .before .before .before .before .before .before .before .put-number .ensures)
-    (c .before .before .before .before .before .before .before .before .before .before .put-number2 .ensures)
-    (c .before .before .before .before .before .before .put-numbers .ensures)
+    (start .args .target .now)
+    (if1 .left)
+    (if2 .left)
+    (put-number .ensures)
+    (put-number2 .ensures)
+    (put-numbers .ensures)
     (c .before .before .copy .ensures))
 
 pub save-spec : {M : Type 1} → statement M

@@ -54,7 +54,10 @@ all-lanes-requires : tie.Need-all-lanes-requires
 all-lanes-requires c κs = search needs
 
 finish-requires : tie.Need-finish-requires
-finish-requires c κs = c .before .before .before .before .before .before .before .before .before .before .before .before .before .before .before .before .before .before .before .before .pre
+finish-requires c κs =
+    let far = c .before .before .before .before .before .before .before .before .before .before in
+    let start : tie.Start = far .before .before .before .before .before .before .before .before .before .before in
+    start .pre
 
 same-length : tie.Need-same-length
 same-length c = search needs

@@ -21,7 +21,8 @@ returns c =
     let raised : tie.After-raises = c .before .before in
     let start : tie.Start = raised .before .before .before .before in
     rw (← raised .raises .ensures, c .before .if1 .taken, c .ended .ensures)
-    (ap (λ (word : Control). leftOf (record { number = 8; length = 0 }) (start .args .vectors .now) (word .bits) (start .args .pointer .now))
+    (ap (λ (word : Control). leftOf (record { number = 8; length = 0 }) (start .args .vectors .now) (word .bits)
+    (start .args .pointer .now))
     (raised .before .recorded .ensures))
 
 lanes-kept-requires : tie.Need-lanes-kept-requires

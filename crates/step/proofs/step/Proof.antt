@@ -27,7 +27,8 @@ returns-2 : tie.Need-returns-2
 returns-2 c =
     let start : tie.Start = c .before .before .before .before .before .before .before in
     rw (c .ended2 .ensures)
-    (sym (refuses-control (start .args .memory .now) (state start) (start .args .code .now) (c .before .before .before .if1 .left) (c .before .if2 .taken)))
+    (sym (refuses-control (start .args .memory .now) (state start) (start .args .code .now) (c .before .before .before .if1 .left)
+    (c .before .if2 .taken)))
 
 decode-requires : tie.Need-decode-requires
 decode-requires c κs = search needs
@@ -50,14 +51,16 @@ returns-3 c =
     let start : tie.Start = told .before .before .before .before .before .before .before .before .before in
     rw (c .ended3 .ensures, c .before .refusal-number .ensures, told .enum-told .given .1)
     (sym
-    (refuses-decoding (start .args .memory .now) (state start) (start .args .code .now) (told .before .before .before .before .before .if1 .left) (told .before .before .before .if2 .left)
+    (refuses-decoding (start .args .memory .now) (state start) (start .args .code .now)
+    (told .before .before .before .before .before .if1 .left) (told .before .before .before .if2 .left)
     (sym (told .before .before .decode .ensures) ∙ told .enum-told .given .1)))
 
 execute-requires : tie.Need-execute-requires
 execute-requires c κs =
     let known : tie.After-decoded = c .before .before .before .before .before in (
       known .before .before .before .before .before .if1 .left,
-      bounds (known .before .before .before .before .before .before .before .before .before .args .code .now) (sym (known .before .before .decode .ensures) ∙ known .decoded .given .1),
+      bounds (known .before .before .before .before .before .before .before .before .before .args .code .now)
+          (sym (known .before .before .decode .ensures) ∙ known .decoded .given .1),
     )
 
 same-length : tie.Need-same-length

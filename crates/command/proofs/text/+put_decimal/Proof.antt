@@ -39,9 +39,12 @@ same-length : (t : ℕ) → put-decimal-lts.Need-same-length (put-decimal-below 
 same-length t c = simp length-set
 
 returns : (t : ℕ) → put-decimal-lts.Need-returns (put-decimal-below t, put-decimal.Post) (put-decimal-at t) put-decimal.Post
-returns t c = rw (decimal-small (c .before .before .args .x) (c .if1 .taken)) (one (c .before .before .args .out .now) (c .before .before .args .at) _ (omega arith))
+returns t c =
+    rw (decimal-small (c .before .before .args .x) (c .if1 .taken))
+    (one (c .before .before .args .out .now) (c .before .before .args .at) _ (omega arith))
 
-put-decimal-requires : (t : ℕ) → put-decimal-lts.Need-put-decimal-requires (put-decimal-below t, put-decimal.Post) (put-decimal-at t) put-decimal.Post
+put-decimal-requires : (t : ℕ)
+    → put-decimal-lts.Need-put-decimal-requires (put-decimal-below t, put-decimal.Post) (put-decimal-at t) put-decimal.Post
 put-decimal-requires t c κs = (omega arith, c .before .before .before .pre .1)
 
 cast-out-2 : (t : ℕ) → put-decimal-lts.Need-cast-out-2 (put-decimal-below t, put-decimal.Post) (put-decimal-at t) put-decimal.Post
@@ -50,24 +53,44 @@ cast-out-2 t c = omega arith
 add-out-2 : (t : ℕ) → put-decimal-lts.Need-add-out-2 (put-decimal-below t, put-decimal.Post) (put-decimal-at t) put-decimal.Post
 add-out-2 t c = omega arith
 
-slice-write-out-2 : (t : ℕ) → put-decimal-lts.Need-slice-write-out-2 (put-decimal-below t, put-decimal.Post) (put-decimal-at t) put-decimal.Post
+slice-write-out-2 : (t : ℕ)
+    → put-decimal-lts.Need-slice-write-out-2 (put-decimal-below t, put-decimal.Post) (put-decimal-at t) put-decimal.Post
 slice-write-out-2 t c =
-    omega (arith, decimal-shorter (c .before .before .before .before .before .before .args .x) (c .before .before .before .before .if1 .left) (c .before .before .before .before .before .before .fits .x .fits), c .before .before .put-decimal .kept .0, c .before .before .put-decimal .ensures .place)
+    omega (
+      arith,
+      decimal-shorter (c .before .before .before .before .before .before .args .x)
+          (c .before .before .before .before .if1 .left) (c .before .before .before .before .before .before .fits .x .fits),
+      c .before .before .put-decimal .kept .0,
+      c .before .before .put-decimal .ensures .place,
+    )
 
 add-result-2 : (t : ℕ) → put-decimal-lts.Need-add-result-2 (put-decimal-below t, put-decimal.Post) (put-decimal-at t) put-decimal.Post
 add-result-2 t c =
-    omega (arith, decimal-shorter (c .before .before .before .before .before .before .args .x) (c .before .before .before .before .if1 .left) (c .before .before .before .before .before .before .fits .x .fits), c .before .before .put-decimal .kept .0, c .before .before .put-decimal .ensures .place)
+    omega (
+      arith,
+      decimal-shorter (c .before .before .before .before .before .before .args .x)
+          (c .before .before .before .before .if1 .left) (c .before .before .before .before .before .before .fits .x .fits),
+      c .before .before .put-decimal .kept .0,
+      c .before .before .put-decimal .ensures .place,
+    )
 
 same-length-2 : (t : ℕ) → put-decimal-lts.Need-same-length-2 (put-decimal-below t, put-decimal.Post) (put-decimal-at t) put-decimal.Post
 same-length-2 t c = simp length-set (c .before .before .put-decimal .kept .0)
 
 returns-2 : (t : ℕ) → put-decimal-lts.Need-returns-2 (put-decimal-below t, put-decimal.Post) (put-decimal-at t) put-decimal.Post
 returns-2 t c =
-    let shorter : length (decimal (c .before .before .before .before .before .before .args .x / 10)) ≤ 19 = decimal-shorter (c .before .before .before .before .before .before .args .x) (c .before .before .before .before .if1 .left) (c .before .before .before .before .before .before .fits .x .fits) in
-    rw (decimal-large (c .before .before .before .before .before .before .args .x) (c .before .before .before .before .if1 .left) (c .before .before .before .before .before .before .fits .x .fits))
-    (followed (omega arith) (c .before .before .put-decimal .ensures) (one (c .before .before .put-decimal .last .0) (c .before .before .put-decimal .result) _ (omega (arith, c .before .before .put-decimal .kept .0, c .before .before .put-decimal .ensures .place))))
+    let shorter : length (decimal (c .before .before .before .before .before .before .args .x / 10)) ≤ 19 =
+    decimal-shorter (c .before .before .before .before .before .before .args .x) (c .before .before .before .before .if1 .left)
+    (c .before .before .before .before .before .before .fits .x .fits) in
+    rw (decimal-large (c .before .before .before .before .before .before .args .x) (c .before .before .before .before .if1 .left)
+    (c .before .before .before .before .before .before .fits .x .fits))
+    (followed (omega arith) (c .before .before .put-decimal .ensures)
+    (one (c .before .before .put-decimal .last .0) (c .before .before .put-decimal .result) _
+    (omega (arith, c .before .before .put-decimal .kept .0, c .before .before .put-decimal .ensures .place))))
 
 pub +put-decimal-spec : {M : Type 1} → statement M
 +put-decimal-spec =
     close μ-put-decimal
-    (λ t. put-decimal-lts.spec (put-decimal-below t, put-decimal.Post) (put-decimal-at t) put-decimal.Post (cast-out t) (add-out t) (slice-write-out t) (add-result t) (same-length t) (returns t) (put-decimal-requires t) (cast-out-2 t) (add-out-2 t) (slice-write-out-2 t) (add-result-2 t) (same-length-2 t) (returns-2 t))
+    (λ t. put-decimal-lts.spec (put-decimal-below t, put-decimal.Post) (put-decimal-at t) put-decimal.Post (cast-out t) (add-out t)
+    (slice-write-out t) (add-result t) (same-length t) (returns t) (put-decimal-requires t) (cast-out-2 t) (add-out-2 t)
+    (slice-write-out-2 t) (add-result-2 t) (same-length-2 t) (returns-2 t))

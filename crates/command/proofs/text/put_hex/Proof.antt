@@ -15,7 +15,8 @@ use Rattle.command.proofs.text.put_hex.Statement.{statement}
 use Rattle.command.proofs.text.put_hex.Tie as tie
 
 abbrev Inv-loop : tie.InvT-loop
-Inv-loop out₀ at x k₀ out k = (k ≤ 8) × (length out ≡ length out₀) × Put (table k (λ j. hexDigit (x / 16 ^ (7 - j) % 16))) out₀ at (at + k) out
+Inv-loop out₀ at x k₀ out k =
+    (k ≤ 8) × (length out ≡ length out₀) × Put (table k (λ j. hexDigit (x / 16 ^ (7 - j) % 16))) out₀ at (at + k) out
 
 abbrev μ-loop : tie.MeasureT-loop
 μ-loop out₀ at x k₀ out k = 8 - k
@@ -55,10 +56,12 @@ loop-again : tie.Need-loop-again Inv-loop μ-loop
 loop-again c =
     let k : ℕ = c .before .before .loop .k in
     let h : k < 8 = c .before .loop-test .taken in
-    let e : c .hex-digit .result ≡ hexDigit (c .before .before .before .before .args .x / 16 ^ (7 - k) % 16) = rw (← hex-shift k h) (c .hex-digit .ensures) in (
+    let e : c .hex-digit .result ≡ hexDigit (c .before .before .before .before .args .x / 16 ^ (7 - k) % 16) =
+    rw (← hex-shift k h) (c .hex-digit .ensures) in (
       omega arith,
       simp length-set (c .before .before .loop .inv .1),
-      rw (table-next k, ← e) (turn k (c .hex-digit .result) (c .before .before .loop .inv .1) (omega arith) (c .before .before .loop .inv .2)),
+      rw (table-next k, ← e) (turn k (c .hex-digit .result) (c .before .before .loop .inv .1) (omega arith)
+          (c .before .before .loop .inv .2)),
     )
 
 add-result : tie.Need-add-result Inv-loop μ-loop

@@ -20,22 +20,33 @@ put-text-requires : tie.Need-put-text-requires
 put-text-requires c κs = omega (arith, decimal-most (c .before .before .before .before .before .before .before .args .offset))
 
 put-decimal-requires-2 : tie.Need-put-decimal-requires-2
-put-decimal-requires-2 c κs = omega (arith, decimal-most (c .before .before .before .before .before .before .before .before .before .before .before .args .offset))
+put-decimal-requires-2 c κs =
+    let start : tie.Start = c .before .before .before .before .before .before .before .before .before .before .before in
+    omega (arith, decimal-most (start .args .offset))
 
 slice-aggregate-put-text-2 : tie.Need-slice-aggregate-put-text-2
 slice-aggregate-put-text-2 c = search needs
 
 put-text-requires-2 : tie.Need-put-text-requires-2
-put-text-requires-2 c κs = omega (arith, decimal-most (c .before .before .before .before .before .before .before .before .before .before .before .before .before .before .before .before .args .offset), decimal-most (c .before .before .before .before .before .before .before .before .before .before .before .before .before .before .before .before .args .number))
+put-text-requires-2 c κs =
+    let far = c .before .before .before .before .before .before .before .before .before .before in
+    let start : tie.Start = far .before .before .before .before .before .before in
+    omega (arith, decimal-most (start .args .offset), decimal-most (start .args .number))
 
 put-hex-requires : tie.Need-put-hex-requires
-put-hex-requires c κs = omega (arith, decimal-most (c .before .before .before .before .before .before .before .before .before .before .before .before .before .before .before .before .before .before .before .before .args .offset), decimal-most (c .before .before .before .before .before .before .before .before .before .before .before .before .before .before .before .before .before .before .before .before .args .number))
+put-hex-requires c κs =
+    let far = c .before .before .before .before .before .before .before .before .before .before in
+    let start : tie.Start = far .before .before .before .before .before .before .before .before .before .before in
+    omega (arith, decimal-most (start .args .offset), decimal-most (start .args .number))
 
 slice-aggregate-put-text-3 : tie.Need-slice-aggregate-put-text-3
 slice-aggregate-put-text-3 c = search needs
 
 put-text-requires-3 : tie.Need-put-text-requires-3
-put-text-requires-3 c κs = omega (arith, decimal-most (c .before .before .before .before .before .before .before .before .before .before .before .before .before .before .before .before .before .before .before .before .before .before .before .before .before .args .offset), decimal-most (c .before .before .before .before .before .before .before .before .before .before .before .before .before .before .before .before .before .before .before .before .before .before .before .before .before .args .number), hex-eight (c .before .before .before .before .before .before .before .before .before .before .before .before .before .before .before .before .before .before .before .before .before .before .before .before .before .args .control))
+put-text-requires-3 c κs =
+    let far = c .before .before .before .before .before .before .before .before .before .before in
+    let start : tie.Start = far .before .before .before .before .before .before .before .before .before .before .before .before .before .before .before in
+    omega (arith, decimal-most (start .args .offset), decimal-most (start .args .number), hex-eight (start .args .control))
 
 same-length : tie.Need-same-length
 same-length c = search needs
@@ -43,9 +54,17 @@ same-length c = search needs
 returns : tie.Need-returns
 unfolding stepLine
 returns c =
-    let fits : c .before .before .before .before .before .before .before .before .before .before .before .before .before .before .before .before .before .before .before .before .before .before .before .before .before .before .before .before .args .at ≤ length (c .before .before .before .before .before .before .before .before .before .before .before .before .before .before .before .before .before .before .before .before .before .before .before .before .before .before .before .before .args .out .now) = omega (arith, c .before .before .before .before .before .before .before .before .before .before .before .before .before .before .before .before .before .before .before .before .before .before .before .before .before .before .before .before .pre) in
+    let far = c .before .before .before .before .before .before .before .before .before .before in
+    let start : tie.Start = far .before .before .before .before .before .before .before .before .before .before .before .before .before .before .before .before .before .before in
+    let put-decimal = far .before .before .before .before .before .before .before .before .before .before .before .before .before .before .before .put-decimal in
+    let put-text = far .before .before .before .before .before .before .before .before .before .before .put-text in
+    let put-decimal2 = far .before .before .before .before .before .before .put-decimal2 in
+    let put-text2 = far .before .put-text2 in
+    let put-hex = c .before .before .before .before .before .before .before .put-hex in
+    let fits : start .args .at ≤ length (start .args .out .now) = omega (arith, start .pre) in
     followed fits
-    (followed fits (followed fits (followed fits (followed fits (c .before .before .before .before .before .before .before .before .before .before .before .before .before .before .before .before .before .before .before .before .before .before .before .before .before .put-decimal .ensures) (c .before .before .before .before .before .before .before .before .before .before .before .before .before .before .before .before .before .before .before .before .put-text .ensures)) (c .before .before .before .before .before .before .before .before .before .before .before .before .before .before .before .before .put-decimal2 .ensures)) (c .before .before .before .before .before .before .before .before .before .before .before .put-text2 .ensures)) (c .before .before .before .before .before .before .before .put-hex .ensures))
+    (followed fits (followed fits (followed fits (followed fits (put-decimal .ensures) (put-text .ensures)) (put-decimal2 .ensures))
+    (put-text2 .ensures)) (put-hex .ensures))
     (c .before .before .put-text3 .ensures)
 
 pub put-step-line-spec : {M : Type 1} → statement M

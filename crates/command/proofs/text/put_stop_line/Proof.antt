@@ -23,7 +23,9 @@ slice-aggregate-put-text-2 : tie.Need-slice-aggregate-put-text-2
 slice-aggregate-put-text-2 c = search needs
 
 put-text-requires-2 : tie.Need-put-text-requires-2
-put-text-requires-2 c κs = omega (arith, decimal-most (c .before .before .before .before .before .before .before .before .before .before .before .before .args .offset))
+put-text-requires-2 c κs =
+    let start : tie.Start = c .before .before .before .before .before .before .before .before .before .before .before .before in
+    omega (arith, decimal-most (start .args .offset))
 
 same-length : tie.Need-same-length
 same-length c = search needs
@@ -31,8 +33,12 @@ same-length c = search needs
 returns : tie.Need-returns
 unfolding stopLine
 returns c =
-    let fits : c .before .before .before .before .before .before .before .before .before .before .before .before .before .before .before .args .at ≤ length (c .before .before .before .before .before .before .before .before .before .before .before .before .before .before .before .args .out .now) = omega (arith, c .before .before .before .before .before .before .before .before .before .before .before .before .before .before .before .pre) in
-    followed fits (followed fits (c .before .before .before .before .before .before .before .before .before .before .before .put-text .ensures) (c .before .before .before .before .before .before .before .put-decimal .ensures)) (c .before .before .put-text2 .ensures)
+    let far = c .before .before .before .before .before .before .before .before .before .before in
+    let start : tie.Start = far .before .before .before .before .before in
+    let put-text = far .before .put-text in
+    let put-decimal = c .before .before .before .before .before .before .before .put-decimal in
+    let fits : start .args .at ≤ length (start .args .out .now) = omega (arith, start .pre) in
+    followed fits (followed fits (put-text .ensures) (put-decimal .ensures)) (c .before .before .put-text2 .ensures)
 
 pub put-stop-line-spec : {M : Type 1} → statement M
 put-stop-line-spec =

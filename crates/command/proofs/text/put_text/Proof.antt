@@ -1,4 +1,5 @@
--- `command::text::put_text` meets its contract: after k turns the first k bytes of the text are put. The measure is what is left of the text.
+-- `command::text::put_text` meets its contract: after k turns the first k bytes of the text are put. The measure is what is left of the
+-- text.
 -- Assumes nothing.
 use Prim.Native.Nat.{ℕ, _+_, _-_, _≤_, _<_}
 use mathlib.Core.Path.{_≡_, refl, ap, _∙_}

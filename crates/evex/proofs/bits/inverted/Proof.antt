@@ -15,7 +15,8 @@ sub-result : tie.Need-sub-result
 sub-result c = one-le _ (c .before .pre .1)
 
 returns : tie.Need-returns
-returns c = flipped (c .bits .result) (c .before .args .x / 2 ^ c .before .args .at) (c .before .args .width) (c .before .pre .1) (c .bits .ensures)
+returns c =
+    flipped (c .bits .result) (c .before .args .x / 2 ^ c .before .args .at) (c .before .args .width) (c .before .pre .1) (c .bits .ensures)
 
 pub inverted-spec : {M : Type 1} → statement M
 inverted-spec = tie.close (tie.spec bits-requires shl-result sub-result returns)

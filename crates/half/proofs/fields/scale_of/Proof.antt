@@ -14,7 +14,9 @@ sub-result : tie.Need-sub-result
 sub-result c = rw (diff-lit (c .lift-of .result) 23 (omega arith)) (sub-fits (c .lift-of .result) 24 (omega arith) (omega arith))
 
 returns : tie.Need-returns
-returns c = rw (← (c .lift-of .ensures), diff-lit (c .lift-of .result) 23 (omega arith)) (sub-whole (c .lift-of .result) 24 (omega arith) (omega arith))
+returns c =
+    rw (← (c .lift-of .ensures), diff-lit (c .lift-of .result) 23 (omega arith))
+    (sub-whole (c .lift-of .result) 24 (omega arith) (omega arith))
 
 pub scale-of-spec : {M : Type 1} → statement M
 scale-of-spec = tie.close (tie.spec lift-of-requires cast-result sub-result returns)

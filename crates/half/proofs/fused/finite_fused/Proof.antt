@@ -24,16 +24,34 @@ cast-finite-sum : tie.Need-cast-finite-sum
 cast-finite-sum c = search needs
 
 shl-finite-sum : tie.Need-shl-finite-sum
-shl-finite-sum c = omega (arith, c .before .before .before .before .before .before .scaled-product .ensures .up (c .before .before .if1 .taken))
+shl-finite-sum c =
+    let scaled-product = c .before .before .before .before .before .before .scaled-product in
+    omega (arith, scaled-product .ensures .up (c .before .before .if1 .taken))
 
 mul-finite-sum-2 : tie.Need-mul-finite-sum-2
 mul-finite-sum-2 c = search needs
 
 finite-sum-requires : tie.Need-finite-sum-requires
-finite-sum-requires c κs = omega (arith, up-lt (c .before .before .before .before .before .before .scaled-product .ensures) (c .before .before .if1 .taken), c .before .before .before .magnitude .ensures, c .before .before .before .before .before .before .before .pre)
+finite-sum-requires c κs =
+    let start : tie.Start = c .before .before .before .before .before .before .before in
+    let scaled-product = c .before .before .before .before .before .before .scaled-product in
+    omega (
+      arith,
+      up-lt (scaled-product .ensures) (c .before .before .if1 .taken),
+      c .before .before .before .magnitude .ensures,
+      start .pre,
+    )
 
 returns : tie.Need-returns
-returns c = coarse-sum (c .before .before .before .before .before .before .before .before .args .mode) (c .before .before .before .before .before .before .before .before .args .unmasked-ue) (c .before .before .before .before .before .before .before .before .args .a) (c .before .before .before .before .before .before .before .before .args .b) (c .before .before .before .before .before .before .before .before .args .c) (c .before .before .before .before .before .before .unlike-signs .ensures) (c .before .before .before .before .before .sign-of .ensures) (c .before .before .before .before .magnitude .ensures) _ (up-units (c .before .before .before .before .before .before .before .scaled-product .ensures) (c .before .before .before .if1 .taken)) (c .finite-sum .ensures)
+returns c =
+    let start : tie.Start = c .before .before .before .before .before .before .before .before in
+    let unlike-signs = c .before .before .before .before .before .before .unlike-signs in
+    let sign-of = c .before .before .before .before .before .sign-of in
+    let magnitude = c .before .before .before .before .magnitude in
+    let scaled-product = c .before .before .before .before .before .before .before .scaled-product in
+    coarse-sum (start .args .mode) (start .args .unmasked-ue) (start .args .a) (start .args .b) (start .args .c) (unlike-signs .ensures)
+    (sign-of .ensures) (magnitude .ensures) _ (up-units (scaled-product .ensures) (c .before .before .before .if1 .taken))
+    (c .finite-sum .ensures)
 
 sub-x : tie.Need-sub-x
 sub-x c = omega (arith, c .before .before .before .before .before .scaled-product .ensures .down (c .before .if1 .left))
@@ -48,10 +66,22 @@ mul-finite-sum-3 : tie.Need-mul-finite-sum-3
 mul-finite-sum-3 c = search needs
 
 finite-sum-requires-2 : tie.Need-finite-sum-requires-2
-finite-sum-requires-2 c κs = let d = down-units (c .before .before .before .before .before .before .scaled-product .ensures) (c .before .before .if1 .left) in omega (arith, c .before .before .before .magnitude .ensures, c .before .before .before .before .before .before .before .pre)
+finite-sum-requires-2 c κs =
+    let start : tie.Start = c .before .before .before .before .before .before .before in
+    let scaled-product = c .before .before .before .before .before .before .scaled-product in
+    let d = down-units (scaled-product .ensures) (c .before .before .if1 .left) in omega
+    (arith, c .before .before .before .magnitude .ensures, start .pre)
 
 returns-2 : tie.Need-returns-2
-returns-2 c = fine-sum (c .before .before .before .before .before .before .before .before .args .mode) (c .before .before .before .before .before .before .before .before .args .unmasked-ue) (c .before .before .before .before .before .before .before .before .args .a) (c .before .before .before .before .before .before .before .before .args .b) (c .before .before .before .before .before .before .before .before .args .c) (c .before .before .before .before .before .before .unlike-signs .ensures) (c .before .before .before .before .before .sign-of .ensures) (c .before .before .before .before .magnitude .ensures) (down-units (c .before .before .before .before .before .before .before .scaled-product .ensures) (c .before .before .before .if1 .left) .0) (c .finite-sum2 .ensures)
+returns-2 c =
+    let start : tie.Start = c .before .before .before .before .before .before .before .before in
+    let unlike-signs = c .before .before .before .before .before .before .unlike-signs in
+    let sign-of = c .before .before .before .before .before .sign-of in
+    let magnitude = c .before .before .before .before .magnitude in
+    let scaled-product = c .before .before .before .before .before .before .before .scaled-product in
+    fine-sum (start .args .mode) (start .args .unmasked-ue) (start .args .a) (start .args .b) (start .args .c) (unlike-signs .ensures)
+    (sign-of .ensures) (magnitude .ensures) (down-units (scaled-product .ensures) (c .before .before .before .if1 .left) .0)
+    (c .finite-sum2 .ensures)
 
 pub finite-fused-spec : {M : Type 1} → statement M
 finite-fused-spec =

@@ -23,7 +23,10 @@ returns : tie.Need-returns
 returns c = search needs
 
 normal-fused-requires : tie.Need-normal-fused-requires
-normal-fused-requires c κs = all-normal (c .before .before .before .before .args .a) (c .before .before .before .before .args .b) (c .before .before .before .before .args .c) (c .before .before .before .is-normal .ensures) (c .before .before .is-normal2 .ensures) (c .before .is-normal3 .ensures) (not-false _ (c .if1 .left))
+normal-fused-requires c κs =
+    let start : tie.Start = c .before .before .before .before in
+    all-normal (start .args .a) (start .args .b) (start .args .c) (c .before .before .before .is-normal .ensures)
+    (c .before .before .is-normal2 .ensures) (c .before .is-normal3 .ensures) (not-false _ (c .if1 .left))
 
 is-large-requires : tie.Need-is-large-requires
 is-large-requires c κs = c .normal-fused .ensures .room
@@ -35,10 +38,24 @@ returns-2 : tie.Need-returns-2
 returns-2 c = search needs
 
 round-large-requires : tie.Need-round-large-requires
-round-large-requires c κs = (leb-true _ _ (sym (c .before .is-large .ensures) ∙ not-false (c .before .is-large .result) (c .if2 .left)), omega (arith, c .before .before .normal-fused .ensures .room))
+round-large-requires c κs = (
+  leb-true _ _ (sym (c .before .is-large .ensures) ∙ not-false (c .before .is-large .result) (c .if2 .left)),
+  omega
+      (arith, c .before .before .normal-fused .ensures .room),
+)
 
 returns-3 : tie.Need-returns-3
-returns-3 c = let n = all-normal (c .before .before .before .before .before .before .before .before .args .a) (c .before .before .before .before .before .before .before .before .args .b) (c .before .before .before .before .before .before .before .before .args .c) (c .before .before .before .before .before .before .before .is-normal .ensures) (c .before .before .before .before .before .before .is-normal2 .ensures) (c .before .before .before .before .before .is-normal3 .ensures) (not-false _ (c .before .before .before .before .if1 .left)) in fused-rounds _ _ (c .before .before .before .before .before .before .before .before .args .a) (c .before .before .before .before .before .before .before .before .args .b) (c .before .before .before .before .before .before .before .before .args .c) (n .0) (n .1) (n .2) (c .before .before .before .normal-fused .ensures) (leb-true _ _ (sym (c .before .before .is-large .ensures) ∙ not-false (c .before .before .is-large .result) (c .before .if2 .left))) (c .round-large .ensures)
+returns-3 c =
+    let start : tie.Start = c .before .before .before .before .before .before .before .before in
+    let is-normal = c .before .before .before .before .before .before .before .is-normal in
+    let is-normal2 = c .before .before .before .before .before .before .is-normal2 in
+    let is-normal3 = c .before .before .before .before .before .is-normal3 in
+    let if1 = c .before .before .before .before .if1 in
+    let n = all-normal (start .args .a) (start .args .b) (start .args .c) (is-normal .ensures) (is-normal2 .ensures) (is-normal3 .ensures)
+    (not-false _ (if1 .left)) in fused-rounds _ _ (start .args .a) (start .args .b) (start .args .c) (n .0) (n .1) (n .2)
+    (c .before .before .before .normal-fused .ensures)
+    (leb-true _ _ (sym (c .before .before .is-large .ensures) ∙ not-false (c .before .before .is-large .result) (c .before .if2 .left)))
+    (c .round-large .ensures)
 
 pub multiply-add-spec : {M : Type 1} → statement M
 multiply-add-spec =

@@ -37,7 +37,15 @@ shifted-sum-requires : tie.Need-shifted-sum-requires
 shifted-sum-requires c κs = search needs
 
 returns : tie.Need-returns
-returns c = let p = c .before .before .before .before .before .before .before .before .pre in normal-fused (c .before .before .before .before .before .before .before .before .args .a) (c .before .before .before .before .before .before .before .before .args .b) (c .before .before .before .before .before .before .before .before .args .c) (p .0) (p .1) (p .2) (c .before .before .before .before .before .before .before .product-of .ensures .0) (c .before .before .before .before .before .before .exponent-of .ensures .0) (c .before .before .before .before .before .exponent-of2 .ensures .0) (c .before .before .before .before .significand-of .ensures .0) (c .before .before .before .exponent-of3 .ensures .0) (c .before .before .unlike-signs .ensures) (c .before .sign-of .ensures) (c .shifted-sum .ensures)
+returns c =
+    let start : tie.Start = c .before .before .before .before .before .before .before .before in
+    let product-of = c .before .before .before .before .before .before .before .product-of in
+    let exponent-of = c .before .before .before .before .before .before .exponent-of in
+    let exponent-of2 = c .before .before .before .before .before .exponent-of2 in
+    let significand-of = c .before .before .before .before .significand-of in
+    let p = start .pre in normal-fused (start .args .a) (start .args .b) (start .args .c) (p .0) (p .1) (p .2) (product-of .ensures .0)
+    (exponent-of .ensures .0) (exponent-of2 .ensures .0) (significand-of .ensures .0) (c .before .before .before .exponent-of3 .ensures .0)
+    (c .before .before .unlike-signs .ensures) (c .before .sign-of .ensures) (c .shifted-sum .ensures)
 
 pub normal-fused-spec : {M : Type 1} → statement M
 normal-fused-spec =

@@ -11,7 +11,12 @@ cast-result : tie.Need-cast-result
 cast-result c = search needs
 
 returns : tie.Need-returns
-returns c = (c .exponent-of .ensures, omega (arith, normal-ge (c .before .args .h) (c .before .pre)), omega (arith, normal-lt (c .before .args .h) (c .before .pre)))
+returns c = (
+  c .exponent-of .ensures,
+  omega (arith, normal-ge (c .before .args .h) (c .before .pre)),
+  omega
+      (arith, normal-lt (c .before .args .h) (c .before .pre)),
+)
 
 pub exponent-of-spec : {M : Type 1} → statement M
 exponent-of-spec = tie.close (tie.spec exponent-of-requires cast-result returns)

@@ -18,7 +18,13 @@ shl-result : tie.Need-shl-result
 shl-result c = search needs
 
 returns : tie.Need-returns
-returns c = let e = normal-raised (c .before .before .args .h) (c .before .before .pre) (c .before .significand-of .ensures .0) (c .exponent-of .ensures .0) in (e, omega (arith, e, finite-lt (c .before .before .args .h) (normal-finite (c .before .before .args .h) (c .before .before .pre))))
+returns c =
+    let e = normal-raised (c .before .before .args .h) (c .before .before .pre) (c .before .significand-of .ensures .0)
+    (c .exponent-of .ensures .0) in (
+      e,
+      omega
+          (arith, e, finite-lt (c .before .before .args .h) (normal-finite (c .before .before .args .h) (c .before .before .pre))),
+    )
 
 pub magnitude-spec : {M : Type 1} → statement M
 magnitude-spec =

@@ -18,7 +18,10 @@ overflow-requires : tie.Need-overflow-requires
 overflow-requires c κs = search needs
 
 returns : tie.Need-returns
-returns c = packed-over (c .before .before .before .args .mode) (c .before .before .before .args .neg) (c .before .before .before .args .z) (c .before .before .before .args .k) (c .before .before .before .pre .0) (c .before .before .before .pre .1) (c .before .before .whole-steps .ensures) (c .before .if1 .taken) (c .overflow .ensures)
+returns c =
+    let start : tie.Start = c .before .before .before in
+    packed-over (start .args .mode) (start .args .neg) (start .args .z) (start .args .k) (start .pre .0) (start .pre .1)
+    (c .before .before .whole-steps .ensures) (c .before .if1 .taken) (c .overflow .ensures)
 
 cast-with-sign : tie.Need-cast-with-sign
 cast-with-sign c = search needs
@@ -30,7 +33,10 @@ flag-if-requires : tie.Need-flag-if-requires
 flag-if-requires c κs = search needs
 
 returns-2 : tie.Need-returns-2
-returns-2 c = packed-fits (c .before .before .before .before .args .mode) (c .before .before .before .before .args .neg) (c .before .before .before .before .args .z) (c .before .before .before .before .args .k) (c .before .before .before .before .pre .0) (c .before .before .before .before .pre .1) (c .before .before .before .whole-steps .ensures) (c .before .before .if1 .left) (c .before .with-sign .ensures) (c .flag-if .ensures)
+returns-2 c =
+    let start : tie.Start = c .before .before .before .before in
+    packed-fits (start .args .mode) (start .args .neg) (start .args .z) (start .args .k) (start .pre .0) (start .pre .1)
+    (c .before .before .before .whole-steps .ensures) (c .before .before .if1 .left) (c .before .with-sign .ensures) (c .flag-if .ensures)
 
 pub packed-spec : {M : Type 1} → statement M
 packed-spec =

@@ -21,10 +21,14 @@ sub-packed : tie.Need-sub-packed
 sub-packed c = omega (arith, zeros-le (c .before .args .m) (c .before .args .e) (c .before .fits .m .fits) refl (c .before .pre .0))
 
 packed-requires : tie.Need-packed-requires
-packed-requires c κs = let r = large-digits (c .before .args .m) (c .before .args .e) (c .before .fits .m .fits) refl (c .before .pre .0) (c .place-of .ensures) in (r .0, r .1, omega arith)
+packed-requires c κs =
+    let r = large-digits (c .before .args .m) (c .before .args .e) (c .before .fits .m .fits) refl (c .before .pre .0)
+    (c .place-of .ensures) in (r .0, r .1, omega arith)
 
 returns : tie.Need-returns
-returns c = large-rounds (c .before .before .args .m) (c .before .before .args .e) (c .before .before .fits .m .fits) refl (c .before .before .pre .0) (c .before .place-of .ensures) _ _ (c .packed .ensures)
+returns c =
+    large-rounds (c .before .before .args .m) (c .before .before .args .e) (c .before .before .fits .m .fits) refl
+    (c .before .before .pre .0) (c .before .place-of .ensures) _ _ (c .packed .ensures)
 
 pub round-large-spec : {M : Type 1} → statement M
 round-large-spec =

@@ -13,7 +13,9 @@ round-requires : tie.Need-round-requires
 round-requires c κs = search needs
 
 returns : tie.Need-returns
-returns c = small-rounds _ _ _ (c .before .before .args .m) (c .before .before .args .e) (c .before .before .pre) (c .before .place-of .ensures) (c .round .ensures)
+returns c =
+    small-rounds _ _ _ (c .before .before .args .m) (c .before .before .args .e) (c .before .before .pre) (c .before .place-of .ensures)
+    (c .round .ensures)
 
 pub round-small-spec : {M : Type 1} → statement M
 round-small-spec = tie.close (tie.spec sub-place-of place-of-requires round-requires returns)

@@ -14,7 +14,12 @@ add-result : tie.Need-add-result
 add-result c = search needs
 
 returns : tie.Need-returns
-returns c = (rw (normal-significand (c .before .args .h) (c .before .pre), ← (c .fraction-of .ensures)), omega arith, omega (arith, c .fraction-of .ensures))
+returns c = (
+  rw (normal-significand (c .before .args .h) (c .before .pre), ← (c .fraction-of .ensures)),
+  omega arith,
+  omega
+      (arith, c .fraction-of .ensures),
+)
 
 pub significand-of-spec : {M : Type 1} → statement M
 significand-of-spec = tie.close (tie.spec fraction-of-requires cast-result add-result returns)

@@ -16,7 +16,14 @@ flag-if-requires : tie.Need-flag-if-requires
 flag-if-requires c κs = search needs
 
 returns : tie.Need-returns
-returns c = rw (c .flag-if .ensures, c .before .before .before .subnormal .ensures, c .before .before .subnormal2 .ensures, c .before .subnormal3 .ensures, or-false)
+returns c =
+    rw (
+      c .flag-if .ensures,
+      c .before .before .before .subnormal .ensures,
+      c .before .before .subnormal2 .ensures,
+      c .before .subnormal3 .ensures,
+      or-false,
+    )
 
 pub denormal-flag-spec : {M : Type 1} → statement M
 denormal-flag-spec =

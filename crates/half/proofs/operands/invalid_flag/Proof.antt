@@ -16,7 +16,14 @@ flag-if-requires : tie.Need-flag-if-requires
 flag-if-requires c κs = search needs
 
 returns : tie.Need-returns
-returns c = rw (c .flag-if .ensures, c .before .before .before .signalling .ensures, c .before .before .signalling2 .ensures, c .before .signalling3 .ensures, or-false)
+returns c =
+    rw (
+      c .flag-if .ensures,
+      c .before .before .before .signalling .ensures,
+      c .before .before .signalling2 .ensures,
+      c .before .signalling3 .ensures,
+      or-false,
+    )
 
 pub invalid-flag-spec : {M : Type 1} → statement M
 invalid-flag-spec =

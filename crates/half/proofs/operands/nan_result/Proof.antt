@@ -18,7 +18,15 @@ invalid-flag-requires : tie.Need-invalid-flag-requires
 invalid-flag-requires c κs = search needs
 
 returns : tie.Need-returns
-returns c = rw (c .before .quieted .ensures, c .invalid-flag .ensures, c .before .before .nan-or3 .ensures, c .before .before .before .nan-or2 .ensures, c .before .before .before .before .nan-or .ensures)
+returns c =
+    let nan-or = c .before .before .before .before .nan-or in
+    rw (
+      c .before .quieted .ensures,
+      c .invalid-flag .ensures,
+      c .before .before .nan-or3 .ensures,
+      c .before .before .before .nan-or2 .ensures,
+      nan-or .ensures,
+    )
 
 pub nan-result-spec : {M : Type 1} → statement M
 nan-result-spec =

@@ -31,7 +31,15 @@ with-flags-requires : tie.Need-with-flags-requires
 with-flags-requires c κs = search needs
 
 returns-2 : tie.Need-returns-2
-returns-2 c = beside (c .before .before .before .before .before .before .before .args .a) (c .before .before .before .before .before .before .before .args .b) (c .before .denormal-flag .ensures) (c .with-flags .ensures) (product-rounded (c .before .before .before .before .before .before .before .args .mode) (c .before .before .before .before .before .before .before .args .unmasked-ue) (c .before .before .before .before .before .before .before .args .a) (c .before .before .before .before .before .before .before .args .b) (c .before .before .before .before .unlike-signs .ensures) (c .before .before .before .product-place .ensures) (c .before .before .round .ensures)) ∙ sym (finite-multiply _ _ (c .before .before .before .before .before .before .before .args .a) (c .before .before .before .before .before .before .before .args .b) (sym (c .before .before .before .before .before .before .all-finite .ensures) ∙ not-false (c .before .before .before .before .before .before .all-finite .result) (c .before .before .before .before .before .if1 .left)))
+returns-2 c =
+    let start : tie.Start = c .before .before .before .before .before .before .before in
+    let unlike-signs = c .before .before .before .before .unlike-signs in
+    let all-finite = c .before .before .before .before .before .before .all-finite in
+    let if1 = c .before .before .before .before .before .if1 in
+    beside (start .args .a) (start .args .b) (c .before .denormal-flag .ensures) (c .with-flags .ensures)
+    (product-rounded (start .args .mode) (start .args .unmasked-ue) (start .args .a) (start .args .b) (unlike-signs .ensures)
+    (c .before .before .before .product-place .ensures) (c .before .before .round .ensures))
+    ∙ sym (finite-multiply _ _ (start .args .a) (start .args .b) (sym (all-finite .ensures) ∙ not-false (all-finite .result) (if1 .left)))
 
 pub any-product-spec : {M : Type 1} → statement M
 any-product-spec =

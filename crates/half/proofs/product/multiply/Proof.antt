@@ -23,7 +23,11 @@ returns-2 : tie.Need-returns-2
 returns-2 c = search needs
 
 normal-product-requires : tie.Need-normal-product-requires
-normal-product-requires c κs = (sym (c .before .before .before .is-normal .ensures) ∙ not-false (c .before .before .before .is-normal .result) (c .before .before .if1 .left), sym (c .before .is-normal2 .ensures) ∙ not-false (c .before .is-normal2 .result) (c .if2 .left))
+normal-product-requires c κs = (
+  sym (c .before .before .before .is-normal .ensures) ∙ not-false (c .before .before .before .is-normal .result)
+      (c .before .before .if1 .left),
+  sym (c .before .is-normal2 .ensures) ∙ not-false (c .before .is-normal2 .result) (c .if2 .left),
+)
 
 returns-3 : tie.Need-returns-3
 returns-3 c = search needs

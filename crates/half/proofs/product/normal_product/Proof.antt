@@ -27,13 +27,25 @@ round-small-requires : tie.Need-round-small-requires
 round-small-requires c κs = search needs
 
 returns : tie.Need-returns
-returns c = product-rounds _ _ (c .before .before .before .before .before .before .args .a) (c .before .before .before .before .before .before .args .b) (c .before .before .before .before .before .before .pre .0) (c .before .before .before .before .before .before .pre .1) (c .before .before .before .before .before .product-of .ensures .0) (c .before .before .before .before .exponent-of .ensures .0) (c .before .before .before .exponent-of2 .ensures .0) (c .before .before .unlike-signs .ensures) (c .round-small .ensures)
+returns c =
+    let start : tie.Start = c .before .before .before .before .before .before in
+    let product-of = c .before .before .before .before .before .product-of in
+    let exponent-of = c .before .before .before .before .exponent-of in
+    product-rounds _ _ (start .args .a) (start .args .b) (start .pre .0) (start .pre .1) (product-of .ensures .0) (exponent-of .ensures .0)
+    (c .before .before .before .exponent-of2 .ensures .0) (c .before .before .unlike-signs .ensures) (c .round-small .ensures)
 
 round-large-requires : tie.Need-round-large-requires
-round-large-requires c κs = (large-from 20 (c .before .before .before .before .product-of .result) _ (c .before .before .before .before .product-of .ensures .1) (omega arith), omega arith)
+round-large-requires c κs =
+    let product-of = c .before .before .before .before .product-of in
+    (large-from 20 (product-of .result) _ (product-of .ensures .1) (omega arith), omega arith)
 
 returns-2 : tie.Need-returns-2
-returns-2 c = product-rounds _ _ (c .before .before .before .before .before .before .args .a) (c .before .before .before .before .before .before .args .b) (c .before .before .before .before .before .before .pre .0) (c .before .before .before .before .before .before .pre .1) (c .before .before .before .before .before .product-of .ensures .0) (c .before .before .before .before .exponent-of .ensures .0) (c .before .before .before .exponent-of2 .ensures .0) (c .before .before .unlike-signs .ensures) (c .round-large .ensures _)
+returns-2 c =
+    let start : tie.Start = c .before .before .before .before .before .before in
+    let product-of = c .before .before .before .before .before .product-of in
+    let exponent-of = c .before .before .before .before .exponent-of in
+    product-rounds _ _ (start .args .a) (start .args .b) (start .pre .0) (start .pre .1) (product-of .ensures .0) (exponent-of .ensures .0)
+    (c .before .before .before .exponent-of2 .ensures .0) (c .before .before .unlike-signs .ensures) (c .round-large .ensures _)
 
 pub normal-product-spec : {M : Type 1} → statement M
 normal-product-spec =

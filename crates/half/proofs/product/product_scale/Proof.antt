@@ -18,7 +18,9 @@ add-result-2 : tie.Need-add-result-2
 add-result-2 c = three-fits (c .before .before .args .a) (c .before .before .args .b) (c .before .scale-of .ensures) (c .scale-of2 .ensures)
 
 returns : tie.Need-returns
-returns c = toZ-ofZ (three-fits (c .before .before .args .a) (c .before .before .args .b) (c .before .scale-of .ensures) (c .scale-of2 .ensures)) ∙ three (c .before .before .args .a) (c .before .before .args .b) (c .before .scale-of .ensures) (c .scale-of2 .ensures)
+returns c =
+    toZ-ofZ (three-fits (c .before .before .args .a) (c .before .before .args .b) (c .before .scale-of .ensures) (c .scale-of2 .ensures))
+    ∙ three (c .before .before .args .a) (c .before .before .args .b) (c .before .scale-of .ensures) (c .scale-of2 .ensures)
 
 pub product-scale-spec : {M : Type 1} → statement M
 product-scale-spec =

@@ -15,7 +15,8 @@ zero-requires-2 : tie.Need-zero-requires-2
 zero-requires-2 c κs = search needs
 
 returns : tie.Need-returns
-returns c = rw (c .before .before .before .zero .ensures, c .before .before .infinite .ensures, c .before .infinite2 .ensures, c .zero2 .ensures)
+returns c =
+    rw (c .before .before .before .zero .ensures, c .before .before .infinite .ensures, c .before .infinite2 .ensures, c .zero2 .ensures)
 
 pub zero-times-infinity-spec : {M : Type 1} → statement M
 zero-times-infinity-spec =

@@ -17,7 +17,10 @@ zero-requires : tie.Need-zero-requires
 zero-requires c κs = search needs
 
 special-quotient-requires : tie.Need-special-quotient-requires
-special-quotient-requires c κs = ordinary (c .before .before .before .before .args .a) (c .before .before .before .before .args .b) (c .before .before .before .finite .ensures) (c .before .before .finite2 .ensures) (c .before .zero .ensures) (not-true _ (c .if1 .taken))
+special-quotient-requires c κs =
+    let start : tie.Start = c .before .before .before .before in
+    ordinary (start .args .a) (start .args .b) (c .before .before .before .finite .ensures) (c .before .before .finite2 .ensures)
+    (c .before .zero .ensures) (not-true _ (c .if1 .taken))
 
 returns : tie.Need-returns
 returns c = c .special-quotient .ensures _ _
@@ -33,8 +36,17 @@ significand-beside-requires-2 c κs = search needs
 
 finite-quotient-requires : tie.Need-finite-quotient-requires
 finite-quotient-requires c κs =
-    let f = ordinary (c .before .before .before .before .before .before .before .args .a) (c .before .before .before .before .before .before .before .args .b) (c .before .before .before .before .before .before .finite .ensures) (c .before .before .before .before .before .finite2 .ensures) (c .before .before .before .before .zero .ensures) (not-false _ (c .before .before .before .if1 .left)) in
-    (one-small (c .before .before .before .before .before .before .before .args .a) (c .before .before .before .before .before .before .before .args .b) (c .before .significand-beside .ensures) (c .significand-beside2 .ensures), divisor-pos (c .before .before .before .before .before .before .before .args .a) (c .before .before .before .before .before .before .before .args .b) (c .before .significand-beside .ensures) (c .significand-beside2 .ensures) (divisor-not-zero (c .before .before .before .before .before .before .before .args .mode) (c .before .before .before .before .before .before .before .args .unmasked-ue) (c .before .before .before .before .before .before .before .args .a) (c .before .before .before .before .before .before .before .args .b) f))
+    let start : tie.Start = c .before .before .before .before .before .before .before in
+    let finite = c .before .before .before .before .before .before .finite in
+    let finite2 = c .before .before .before .before .before .finite2 in
+    let zero = c .before .before .before .before .zero in
+    let f = ordinary (start .args .a) (start .args .b) (finite .ensures) (finite2 .ensures) (zero .ensures)
+    (not-false _ (c .before .before .before .if1 .left)) in (
+      one-small (start .args .a) (start .args .b) (c .before .significand-beside .ensures) (c .significand-beside2 .ensures),
+      divisor-pos
+          (start .args .a) (start .args .b) (c .before .significand-beside .ensures) (c .significand-beside2 .ensures)
+          (divisor-not-zero (start .args .mode) (start .args .unmasked-ue) (start .args .a) (start .args .b) f),
+    )
 
 denormal-flag-requires : tie.Need-denormal-flag-requires
 denormal-flag-requires c κs = search needs
@@ -44,10 +56,20 @@ with-flags-requires c κs = search needs
 
 returns-2 : tie.Need-returns-2
 returns-2 c =
-    let f = ordinary (c .before .before .before .before .before .before .before .before .before .before .args .a) (c .before .before .before .before .before .before .before .before .before .before .args .b) (c .before .before .before .before .before .before .before .before .before .finite .ensures) (c .before .before .before .before .before .before .before .before .finite2 .ensures) (c .before .before .before .before .before .before .before .zero .ensures) (not-false _ (c .before .before .before .before .before .before .if1 .left)) in
-    let q = quotient-units (c .before .before .before .before .before .before .before .before .before .before .args .a) (c .before .before .before .before .before .before .before .before .before .before .args .b) (c .before .before .before .before .significand-beside .ensures) (c .before .before .before .significand-beside2 .ensures) _ _ _ (divisor-not-zero (c .before .before .before .before .before .before .before .before .before .before .args .mode) (c .before .before .before .before .before .before .before .before .before .before .args .unmasked-ue) (c .before .before .before .before .before .before .before .before .before .before .args .a) (c .before .before .before .before .before .before .before .before .before .before .args .b) f) (c .before .before .finite-quotient .ensures) in
-    beside (c .before .before .before .before .before .before .before .before .before .before .args .a) (c .before .before .before .before .before .before .before .before .before .before .args .b) (c .before .denormal-flag .ensures) (c .with-flags .ensures) (q ∙ rw (c .before .before .before .before .before .unlike-signs .ensures))
-    ∙ sym (finite-divide _ _ (c .before .before .before .before .before .before .before .before .before .before .args .a) (c .before .before .before .before .before .before .before .before .before .before .args .b) f)
+    let start : tie.Start = c .before .before .before .before .before .before .before .before .before .before in
+    let finite = c .before .before .before .before .before .before .before .before .before .finite in
+    let finite2 = c .before .before .before .before .before .before .before .before .finite2 in
+    let zero = c .before .before .before .before .before .before .before .zero in
+    let if1 = c .before .before .before .before .before .before .if1 in
+    let significand-beside = c .before .before .before .before .significand-beside in
+    let unlike-signs = c .before .before .before .before .before .unlike-signs in
+    let f = ordinary (start .args .a) (start .args .b) (finite .ensures) (finite2 .ensures) (zero .ensures) (not-false _ (if1 .left)) in
+    let q = quotient-units (start .args .a) (start .args .b) (significand-beside .ensures)
+    (c .before .before .before .significand-beside2 .ensures) _ _ _
+    (divisor-not-zero (start .args .mode) (start .args .unmasked-ue) (start .args .a) (start .args .b) f)
+    (c .before .before .finite-quotient .ensures) in
+    beside (start .args .a) (start .args .b) (c .before .denormal-flag .ensures) (c .with-flags .ensures) (q ∙ rw (unlike-signs .ensures))
+    ∙ sym (finite-divide _ _ (start .args .a) (start .args .b) f)
 
 pub any-quotient-spec : {M : Type 1} → statement M
 any-quotient-spec =

@@ -36,13 +36,36 @@ round-small-requires : tie.Need-round-small-requires
 round-small-requires c κs = search needs
 
 returns : tie.Need-returns
-returns c = quotient-rounds (c .before .before .before .before .before .before .before .before .args .a) (c .before .before .before .before .before .before .before .before .args .b) (c .before .before .before .before .before .before .before .before .pre .0) (c .before .before .before .before .before .before .before .before .pre .1) (c .before .before .before .before .before .significand-of .ensures) (c .before .before .before .before .significand-of2 .ensures) (c .before .before .before .quotient-place .ensures) _ _ (c .before .before .before .before .before .before .before .exponent-of .ensures .0) (c .before .before .before .before .before .before .exponent-of2 .ensures .0) (c .before .before .unlike-signs .ensures) (c .round-small .ensures)
+returns c =
+    let start : tie.Start = c .before .before .before .before .before .before .before .before in
+    let significand-of = c .before .before .before .before .before .significand-of in
+    let significand-of2 = c .before .before .before .before .significand-of2 in
+    let exponent-of = c .before .before .before .before .before .before .before .exponent-of in
+    let exponent-of2 = c .before .before .before .before .before .before .exponent-of2 in
+    quotient-rounds (start .args .a) (start .args .b) (start .pre .0) (start .pre .1) (significand-of .ensures) (significand-of2 .ensures)
+    (c .before .before .before .quotient-place .ensures) _ _ (exponent-of .ensures .0) (exponent-of2 .ensures .0)
+    (c .before .before .unlike-signs .ensures) (c .round-small .ensures)
 
 round-large-requires : tie.Need-round-large-requires
-round-large-requires c κs = (large-from 21 (c .before .before .quotient-place .result) _ (quotient-ge (c .before .before .before .before .before .before .before .args .a) (c .before .before .before .before .before .before .before .args .b) (c .before .before .before .before .before .before .before .pre .0) (c .before .before .before .before .before .before .before .pre .1) (c .before .before .before .before .significand-of .ensures) (c .before .before .before .significand-of2 .ensures) (c .before .before .quotient-place .ensures)) (omega arith), omega arith)
+round-large-requires c κs =
+    let start : tie.Start = c .before .before .before .before .before .before .before in
+    let significand-of = c .before .before .before .before .significand-of in (
+      large-from 21 (c .before .before .quotient-place .result) _
+          (quotient-ge (start .args .a) (start .args .b) (start .pre .0) (start .pre .1) (significand-of .ensures)
+          (c .before .before .before .significand-of2 .ensures) (c .before .before .quotient-place .ensures)) (omega arith),
+      omega arith,
+    )
 
 returns-2 : tie.Need-returns-2
-returns-2 c = quotient-rounds (c .before .before .before .before .before .before .before .before .args .a) (c .before .before .before .before .before .before .before .before .args .b) (c .before .before .before .before .before .before .before .before .pre .0) (c .before .before .before .before .before .before .before .before .pre .1) (c .before .before .before .before .before .significand-of .ensures) (c .before .before .before .before .significand-of2 .ensures) (c .before .before .before .quotient-place .ensures) _ _ (c .before .before .before .before .before .before .before .exponent-of .ensures .0) (c .before .before .before .before .before .before .exponent-of2 .ensures .0) (c .before .before .unlike-signs .ensures) (c .round-large .ensures _)
+returns-2 c =
+    let start : tie.Start = c .before .before .before .before .before .before .before .before in
+    let significand-of = c .before .before .before .before .before .significand-of in
+    let significand-of2 = c .before .before .before .before .significand-of2 in
+    let exponent-of = c .before .before .before .before .before .before .before .exponent-of in
+    let exponent-of2 = c .before .before .before .before .before .before .exponent-of2 in
+    quotient-rounds (start .args .a) (start .args .b) (start .pre .0) (start .pre .1) (significand-of .ensures) (significand-of2 .ensures)
+    (c .before .before .before .quotient-place .ensures) _ _ (exponent-of .ensures .0) (exponent-of2 .ensures .0)
+    (c .before .before .unlike-signs .ensures) (c .round-large .ensures _)
 
 pub normal-quotient-spec : {M : Type 1} → statement M
 normal-quotient-spec =

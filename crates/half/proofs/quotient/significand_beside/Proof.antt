@@ -20,10 +20,16 @@ shl-result : tie.Need-shl-result
 shl-result c = search needs
 
 returns : tie.Need-returns
-returns c = not-raised (c .before .before .before .before .args .a) (c .before .before .before .before .args .b) (c .before .significand-of .ensures) (c .before .before .before .lift-of .ensures) (c .before .before .lift-of2 .ensures) (omega (arith, c .if1 .taken))
+returns c =
+    let start : tie.Start = c .before .before .before .before in
+    not-raised (start .args .a) (start .args .b) (c .before .significand-of .ensures) (c .before .before .before .lift-of .ensures)
+    (c .before .before .lift-of2 .ensures) (omega (arith, c .if1 .taken))
 
 returns-2 : tie.Need-returns-2
-returns-2 c = raised-by (c .before .before .before .before .args .a) (c .before .before .before .before .args .b) (c .before .significand-of .ensures) (c .before .before .before .lift-of .ensures) (c .before .before .lift-of2 .ensures)
+returns-2 c =
+    let start : tie.Start = c .before .before .before .before in
+    raised-by (start .args .a) (start .args .b) (c .before .significand-of .ensures) (c .before .before .before .lift-of .ensures)
+    (c .before .before .lift-of2 .ensures)
 
 pub significand-beside-spec : {M : Type 1} → statement M
 significand-beside-spec =

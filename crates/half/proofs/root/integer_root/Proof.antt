@@ -23,13 +23,21 @@ add-one-down : tie.Need-add-one-down Inv-loop μ-loop
 add-one-down c = omega (arith, c .guess .ensures, div-le-self (c .before .args .n) (c .guess .result))
 
 one-down-requires : tie.Need-one-down-requires Inv-loop μ-loop
-one-down-requires c κs = (omega (arith, c .guess .ensures, div-le-self (c .before .args .n) (c .guess .result)), mean-above (c .before .args .n) (c .guess .result) (c .guess .ensures .0))
+one-down-requires c κs = (
+  omega (arith, c .guess .ensures, div-le-self (c .before .args .n) (c .guess .result)),
+  mean-above (c .before .args .n)
+      (c .guess .result) (c .guess .ensures .0),
+)
 
 loop-holds : tie.Need-loop-holds Inv-loop μ-loop
 loop-holds c = c .one-down .ensures
 
 mul-loop : tie.Need-mul-loop Inv-loop μ-loop
-mul-loop c = record { fits = lt-of-le-of-lt (mul-le-mul {n₁ = c .loop .s} {m₁ = c .loop .s} {n₂ = 2 ^ 25} {m₂ = 2 ^ 25} (omega arith) (omega arith)) (lit< tt) }
+mul-loop c =
+    record {
+      fits = lt-of-le-of-lt (mul-le-mul {n₁ = c .loop .s} {m₁ = c .loop .s} {n₂ = 2 ^ 25} {m₂ = 2 ^ 25} (omega arith) (omega arith))
+          (lit< tt);
+    }
 
 sub-s : tie.Need-sub-s Inv-loop μ-loop
 sub-s c = omega (arith, down (c .before .before .before .before .args .n) (c .before .loop .s) (c .loop-test .taken) .0)
@@ -41,9 +49,12 @@ loop-again : tie.Need-loop-again Inv-loop μ-loop
 loop-again c = (omega arith, down (c .before .before .before .before .args .n) (c .before .loop .s) (c .loop-test .taken) .1)
 
 returns : tie.Need-returns Inv-loop μ-loop
-returns c = root-found (c .before .before .before .before .args .n) (c .before .loop .s) (c .before .before .before .before .pre) (c .before .loop .inv .1) (c .loop-test .left)
+returns c =
+    let start = c .before .before .before .before in
+    root-found (start .args .n) (c .before .loop .s) (start .pre) (c .before .loop .inv .1) (c .loop-test .left)
 
 pub integer-root-spec : {M : Type 1} → statement M
 integer-root-spec =
     tie.close
-    (tie.spec Inv-loop μ-loop guess-requires div-one-down add-one-down one-down-requires loop-holds mul-loop sub-s loop-less loop-again returns)
+    (tie.spec Inv-loop μ-loop guess-requires div-one-down add-one-down one-down-requires loop-holds mul-loop sub-s loop-less loop-again
+    returns)

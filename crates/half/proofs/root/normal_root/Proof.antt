@@ -22,16 +22,25 @@ shl-root-place : tie.Need-shl-root-place
 shl-root-place c = search needs
 
 root-place-requires : tie.Need-root-place-requires
-root-place-requires c κs = normal-radicand-lt (c .before .before .args .a) (c .before .before .pre .0) (c .significand-of .ensures) (c .before .exponent-of .ensures .0)
+root-place-requires c κs =
+    normal-radicand-lt (c .before .before .args .a) (c .before .before .pre .0) (c .significand-of .ensures)
+    (c .before .exponent-of .ensures .0)
 
 add-packed : tie.Need-add-packed
 add-packed c = search needs
 
 packed-requires : tie.Need-packed-requires
-packed-requires c κs = let r = root-digits (normal-radicand (c .before .before .before .args .a) (c .before .before .before .pre .0) (c .before .significand-of .ensures) (c .before .before .exponent-of .ensures .0) (c .root-place .ensures)) in (r .0, r .1, omega arith)
+packed-requires c κs =
+    let start : tie.Start = c .before .before .before in
+    let r = root-digits (normal-radicand (start .args .a) (start .pre .0) (c .before .significand-of .ensures)
+    (c .before .before .exponent-of .ensures .0) (c .root-place .ensures)) in (r .0, r .1, omega arith)
 
 returns : tie.Need-returns
-returns c = λ u. root-rounds (normal-radicand (c .before .before .before .before .args .a) (c .before .before .before .before .pre .0) (c .before .before .significand-of .ensures) (c .before .before .before .exponent-of .ensures .0) (c .before .root-place .ensures)) _ _ (c .packed .ensures) u ∙ sym (normal-root _ u (c .before .before .before .before .args .a) (c .before .before .before .before .pre .0) (c .before .before .before .before .pre .1))
+returns c =
+    let start : tie.Start = c .before .before .before .before in
+    λ u. root-rounds (normal-radicand (start .args .a) (start .pre .0) (c .before .before .significand-of .ensures)
+    (c .before .before .before .exponent-of .ensures .0) (c .before .root-place .ensures)) _ _ (c .packed .ensures) u
+    ∙ sym (normal-root _ u (start .args .a) (start .pre .0) (start .pre .1))
 
 pub normal-root-spec : {M : Type 1} → statement M
 normal-root-spec =

@@ -8,7 +8,11 @@ use Rattle.half.proofs.root.one_down.Statement.{statement}
 use Rattle.half.proofs.root.one_down.Tie as tie
 
 mul-if1 : tie.Need-mul-if1
-mul-if1 c = record { fits = lt-of-le-of-lt (mul-le-mul {n₁ = c .args .s} {m₁ = c .args .s} {n₂ = 2 ^ 25} {m₂ = 2 ^ 25} (omega arith) (omega arith)) (lit< tt) }
+mul-if1 c =
+    record {
+      fits = lt-of-le-of-lt (mul-le-mul {n₁ = c .args .s} {m₁ = c .args .s} {n₂ = 2 ^ 25} {m₂ = 2 ^ 25} (omega arith) (omega arith))
+          (lit< tt);
+    }
 
 sub-result : tie.Need-sub-result
 sub-result c = omega (arith, down (c .before .args .n) (c .before .args .s) (c .if1 .taken) .0)

@@ -25,7 +25,10 @@ returns-2 : tie.Need-returns-2
 returns-2 c = c .any-root .ensures _
 
 normal-root-requires : tie.Need-normal-root-requires
-normal-root-requires c κs = (sym (c .before .is-normal .ensures) ∙ not-false (c .before .is-normal .result) (c .if2 .left), sym (c .before .before .before .sign-of .ensures) ∙ c .before .before .if1 .left)
+normal-root-requires c κs = (
+  sym (c .before .is-normal .ensures) ∙ not-false (c .before .is-normal .result) (c .if2 .left),
+  sym (c .before .before .before .sign-of .ensures) ∙ c .before .before .if1 .left,
+)
 
 returns-3 : tie.Need-returns-3
 returns-3 c = c .normal-root .ensures _

@@ -14,10 +14,14 @@ carry-requires : tie.Need-carry-requires
 carry-requires c κs = search needs
 
 sub-result : tie.Need-sub-result
-sub-result c = omega (arith, c .carry .ensures, carry-le (c .before .is-nearest .result) (c .before .before .leads-outward .result) 1 (omega arith))
+sub-result c =
+    omega (arith, c .carry .ensures, carry-le (c .before .is-nearest .result) (c .before .before .leads-outward .result) 1 (omega arith))
 
 returns : tie.Need-returns
-returns c = tiny-below (c .before .before .before .args .mode) (c .before .before .before .args .neg) (c .before .before .before .args .t) (c .before .is-nearest .ensures) (c .before .before .leads-outward .ensures) (c .carry .ensures)
+returns c =
+    let start : tie.Start = c .before .before .before in
+    tiny-below (start .args .mode) (start .args .neg) (start .args .t) (c .before .is-nearest .ensures)
+    (c .before .before .leads-outward .ensures) (c .carry .ensures)
 
 pub is-tiny-spec : {M : Type 1} → statement M
 is-tiny-spec =

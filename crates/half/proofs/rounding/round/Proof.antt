@@ -17,7 +17,8 @@ place-of-requires : tie.Need-place-of-requires
 place-of-requires c κs = let s = size-le (c .before .args .t) 64 (c .before .fits .t .fits) in omega arith
 
 whole-steps-requires : tie.Need-whole-steps-requires
-whole-steps-requires c κs = place-half (c .before .before .args .t) _ (c .before .before .fits .t .fits) (omega arith) (c .place-of .ensures)
+whole-steps-requires c κs =
+    place-half (c .before .before .args .t) _ (c .before .before .fits .t .fits) (omega arith) (c .place-of .ensures)
 
 cast-m : tie.Need-cast-m
 cast-m c = search needs
@@ -26,13 +27,19 @@ mul-m : tie.Need-mul-m
 mul-m c = search needs
 
 add-m : tie.Need-add-m
-add-m c = let s = size-le (c .before .before .before .args .t) 64 (c .before .before .before .fits .t .fits) in omega (arith, steps-le (c .before .before .before .args .mode) (c .before .before .before .args .neg) (c .before .place-of .result))
+add-m c =
+    let start : tie.Start = c .before .before .before in
+    let s = size-le (start .args .t) 64 (start .fits .t .fits) in omega
+    (arith, steps-le (start .args .mode) (start .args .neg) (c .before .place-of .result))
 
 overflow-requires : tie.Need-overflow-requires
 overflow-requires c κs = search needs
 
 returns : tie.Need-returns
-returns c = over _ _ _ (c .before .before .before .before .before .args .t) _ _ _ (c .before .before .before .before .dropped .ensures) (c .before .before .before .place-of .ensures) (c .before .before .whole-steps .ensures) (c .before .if1 .taken) (c .overflow .ensures)
+returns c =
+    let dropped = c .before .before .before .before .dropped in
+    over _ _ _ (c .before .before .before .before .before .args .t) _ _ _ (dropped .ensures) (c .before .before .before .place-of .ensures)
+    (c .before .before .whole-steps .ensures) (c .before .if1 .taken) (c .overflow .ensures)
 
 is-tiny-requires : tie.Need-is-tiny-requires
 is-tiny-requires c κs = search needs
@@ -50,7 +57,15 @@ flag-if-requires-2 : tie.Need-flag-if-requires-2
 flag-if-requires-2 c κs = search needs
 
 returns-2 : tie.Need-returns-2
-returns-2 c = fit _ _ _ (c .before .before .before .before .before .before .before .before .args .t) _ _ _ (c .before .before .before .before .before .before .before .dropped .ensures) (c .before .before .before .before .before .before .place-of .ensures) (c .before .before .before .before .before .whole-steps .ensures) (c .before .before .before .before .if1 .left) (c .before .before .before .is-tiny .ensures) (c .before .before .with-sign .ensures) (c .before .flag-if .ensures) (c .flag-if2 .ensures)
+returns-2 c =
+    let start : tie.Start = c .before .before .before .before .before .before .before .before in
+    let dropped = c .before .before .before .before .before .before .before .dropped in
+    let place-of = c .before .before .before .before .before .before .place-of in
+    let whole-steps = c .before .before .before .before .before .whole-steps in
+    let if1 = c .before .before .before .before .if1 in
+    fit _ _ _ (start .args .t) _ _ _ (dropped .ensures) (place-of .ensures) (whole-steps .ensures) (if1 .left)
+    (c .before .before .before .is-tiny .ensures) (c .before .before .with-sign .ensures) (c .before .flag-if .ensures)
+    (c .flag-if2 .ensures)
 
 pub round-spec : {M : Type 1} → statement M
 round-spec =

@@ -15,10 +15,18 @@ carry-requires : tie.Need-carry-requires
 carry-requires c κs = search needs
 
 add-result : tie.Need-add-result
-add-result c = omega (arith, c .carry .ensures, carry-le (c .before .is-nearest .result) (c .before .before .leads-outward .result) (c .before .before .before .args .z / 4 % 2) (omega arith))
+add-result c =
+    omega (
+      arith,
+      c .carry .ensures,
+      carry-le (c .before .is-nearest .result) (c .before .before .leads-outward .result)
+          (c .before .before .before .args .z / 4 % 2) (omega arith),
+    )
 
 returns : tie.Need-returns
-returns c = carried _ _ (c .before .before .before .args .z) (c .before .is-nearest .ensures) (c .before .before .leads-outward .ensures) (c .carry .ensures)
+returns c =
+    carried _ _ (c .before .before .before .args .z) (c .before .is-nearest .ensures) (c .before .before .leads-outward .ensures)
+    (c .carry .ensures)
 
 pub whole-steps-spec : {M : Type 1} → statement M
 whole-steps-spec =

@@ -36,7 +36,9 @@ sign-of-requires-2 : tie.Need-sign-of-requires-2
 sign-of-requires-2 c κs = search needs
 
 finite-sum-requires : tie.Need-finite-sum-requires
-finite-sum-requires c κs = omega (arith, units-lt (c .before .before .before .before .before .before .args .a), units-lt (c .before .before .before .before .before .before .args .b))
+finite-sum-requires c κs =
+    let start : tie.Start = c .before .before .before .before .before .before in
+    omega (arith, units-lt (start .args .a), units-lt (start .args .b))
 
 denormal-flag-requires : tie.Need-denormal-flag-requires
 denormal-flag-requires c κs = search needs
@@ -45,7 +47,17 @@ with-flags-requires : tie.Need-with-flags-requires
 with-flags-requires c κs = search needs
 
 returns-2 : tie.Need-returns-2
-returns-2 c = beside (c .before .before .before .before .before .before .before .before .before .args .a) (c .before .before .before .before .before .before .before .before .before .args .b) (c .before .denormal-flag .ensures) (c .with-flags .ensures) (sum-units (c .before .before .before .before .before .before .before .before .before .args .mode) (c .before .before .before .before .before .before .before .before .before .args .unmasked-ue) (c .before .before .before .before .before .before .before .before .before .args .a) (c .before .before .before .before .before .before .before .before .before .args .b) (c .before .before .before .before .before .before .magnitude .ensures) (c .before .before .before .before .before .magnitude2 .ensures) (c .before .before .before .before .sign-of .ensures) (c .before .before .before .sign-of2 .ensures) (c .before .before .finite-sum .ensures)) ∙ sym (finite-add _ _ (c .before .before .before .before .before .before .before .before .before .args .a) (c .before .before .before .before .before .before .before .before .before .args .b) (sym (c .before .before .before .before .before .before .before .before .all-finite .ensures) ∙ not-false (c .before .before .before .before .before .before .before .before .all-finite .result) (c .before .before .before .before .before .before .before .if1 .left)))
+returns-2 c =
+    let start : tie.Start = c .before .before .before .before .before .before .before .before .before in
+    let magnitude = c .before .before .before .before .before .before .magnitude in
+    let magnitude2 = c .before .before .before .before .before .magnitude2 in
+    let sign-of = c .before .before .before .before .sign-of in
+    let all-finite = c .before .before .before .before .before .before .before .before .all-finite in
+    let if1 = c .before .before .before .before .before .before .before .if1 in
+    beside (start .args .a) (start .args .b) (c .before .denormal-flag .ensures) (c .with-flags .ensures)
+    (sum-units (start .args .mode) (start .args .unmasked-ue) (start .args .a) (start .args .b) (magnitude .ensures) (magnitude2 .ensures)
+    (sign-of .ensures) (c .before .before .before .sign-of2 .ensures) (c .before .before .finite-sum .ensures))
+    ∙ sym (finite-add _ _ (start .args .a) (start .args .b) (sym (all-finite .ensures) ∙ not-false (all-finite .result) (if1 .left)))
 
 pub any-sum-spec : {M : Type 1} → statement M
 any-sum-spec =

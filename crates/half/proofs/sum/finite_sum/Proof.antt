@@ -22,7 +22,10 @@ round-requires : tie.Need-round-requires
 round-requires c κs = search needs
 
 returns-2 : tie.Need-returns-2
-returns-2 c = summed _ _ _ _ _ _ _ (c .before .before .before .before .total .ensures) (c .before .before .before .if1 .left) (c .before .before .sign-of-larger .ensures) (c .before .place-of-sum .ensures) (c .round .ensures)
+returns-2 c =
+    let total = c .before .before .before .before .total in
+    summed _ _ _ _ _ _ _ (total .ensures) (c .before .before .before .if1 .left) (c .before .before .sign-of-larger .ensures)
+    (c .before .place-of-sum .ensures) (c .round .ensures)
 
 pub finite-sum-spec : {M : Type 1} → statement M
 finite-sum-spec =

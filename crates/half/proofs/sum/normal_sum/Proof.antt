@@ -22,7 +22,13 @@ total-requires : tie.Need-total-requires
 total-requires c κs = search needs
 
 returns : tie.Need-returns
-returns c = normal-sum (c .before .before .before .before .before .before .args .a) (c .before .before .before .before .before .before .args .b) (c .before .before .before .before .before .magnitude .ensures .0) (c .before .before .before .before .magnitude2 .ensures .0) (c .before .before .before .sign-of .ensures) (c .before .before .sign-of2 .ensures) (c .total .ensures) (c .before .sign-of-larger .ensures)
+returns c =
+    let start : tie.Start = c .before .before .before .before .before .before in
+    let magnitude = c .before .before .before .before .before .magnitude in
+    let magnitude2 = c .before .before .before .before .magnitude2 in
+    normal-sum (start .args .a) (start .args .b) (magnitude .ensures .0) (magnitude2 .ensures .0)
+    (c .before .before .before .sign-of .ensures) (c .before .before .sign-of2 .ensures) (c .total .ensures)
+    (c .before .sign-of-larger .ensures)
 
 pub normal-sum-spec : {M : Type 1} → statement M
 normal-sum-spec =

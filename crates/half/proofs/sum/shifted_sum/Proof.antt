@@ -28,10 +28,15 @@ sign-of-larger-requires : tie.Need-sign-of-larger-requires
 sign-of-larger-requires c κs = search needs
 
 total-requires : tie.Need-total-requires
-total-requires c κs = let p = c .before .before .pre in shifted-fit (c .before .before .args .x) (c .before .before .args .i) (c .before .before .args .y) (c .before .before .args .j) (c .before .lower .ensures) (p .0) (p .1) (p .2) (p .3) (p .4) (p .5)
+total-requires c κs =
+    let p = c .before .before .pre in shifted-fit (c .before .before .args .x) (c .before .before .args .i) (c .before .before .args .y)
+    (c .before .before .args .j) (c .before .lower .ensures) (p .0) (p .1) (p .2) (p .3) (p .4) (p .5)
 
 returns : tie.Need-returns
-returns c = let p = c .before .before .before .pre in shifted-sum (c .before .before .before .args .x) (c .before .before .before .args .i) (c .before .before .before .args .y) (c .before .before .before .args .j) (c .before .before .lower .ensures) (p .0) (p .1) (p .2) (p .3) (p .4) (p .5) (c .total .ensures) (c .before .sign-of-larger .ensures)
+returns c =
+    let start : tie.Start = c .before .before .before in
+    let p = start .pre in shifted-sum (start .args .x) (start .args .i) (start .args .y) (start .args .j)
+    (c .before .before .lower .ensures) (p .0) (p .1) (p .2) (p .3) (p .4) (p .5) (c .total .ensures) (c .before .sign-of-larger .ensures)
 
 pub shifted-sum-spec : {M : Type 1} → statement M
 shifted-sum-spec =

@@ -11,16 +11,24 @@ smaller-requires : tie.Need-smaller-requires
 smaller-requires c κs = search needs
 
 add-result : tie.Need-add-result
-add-result c = omega (arith, both (c .before .before .before .args .x) (c .before .before .before .args .y) (c .before .before .larger .ensures) (c .before .smaller .ensures))
+add-result c =
+    let start : tie.Start = c .before .before .before in
+    omega (arith, both (start .args .x) (start .args .y) (c .before .before .larger .ensures) (c .before .smaller .ensures))
 
 sub-result : tie.Need-sub-result
-sub-result c = omega (arith, both (c .before .before .before .args .x) (c .before .before .before .args .y) (c .before .before .larger .ensures) (c .before .smaller .ensures))
+sub-result c =
+    let start : tie.Start = c .before .before .before in
+    omega (arith, both (start .args .x) (start .args .y) (c .before .before .larger .ensures) (c .before .smaller .ensures))
 
 returns : tie.Need-returns
-returns c = rw (c .if1 .taken) (both (c .before .before .before .args .x) (c .before .before .before .args .y) (c .before .before .larger .ensures) (c .before .smaller .ensures) .1)
+returns c =
+    let start : tie.Start = c .before .before .before in
+    rw (c .if1 .taken) (both (start .args .x) (start .args .y) (c .before .before .larger .ensures) (c .before .smaller .ensures) .1)
 
 returns-2 : tie.Need-returns-2
-returns-2 c = rw (c .if1 .left) (both (c .before .before .before .args .x) (c .before .before .before .args .y) (c .before .before .larger .ensures) (c .before .smaller .ensures) .2)
+returns-2 c =
+    let start : tie.Start = c .before .before .before in
+    rw (c .if1 .left) (both (start .args .x) (start .args .y) (c .before .before .larger .ensures) (c .before .smaller .ensures) .2)
 
 pub total-spec : {M : Type 1} → statement M
 total-spec =

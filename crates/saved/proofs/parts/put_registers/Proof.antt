@@ -52,10 +52,13 @@ loop-less c = omega arith
 
 loop-again : tie.Need-loop-again Inv-loop μ-loop
 loop-again c =
-    more (c .before .before .before .before .before .before .loop .inv)
-    (8 * (c .before .before .before .before .before .before .loop .k + 1)) _ (omega arith) (omega arith)
+    let start = c .before .before .before .before .before .before .before .before .before in
+    let loop = c .before .before .before .before .before .before .loop in
+    let loop-test = c .before .before .before .before .before .loop-test in
+    more (loop .inv)
+    (8 * (loop .k + 1)) _ (omega arith) (omega arith)
     (c .before .before .put-number .ensures
-    ∙ written-register _ _ _ _ (c .before .before .before .before .before .loop-test .taken) (kept (c .before .before .before .before .before .before .loop .inv) ∙ c .before .before .before .before .before .before .before .before .before .pre))
+    ∙ written-register _ _ _ _ (loop-test .taken) (kept (loop .inv) ∙ start .pre))
 
 same-length : tie.Need-same-length Inv-loop μ-loop
 same-length c = kept (c .before .loop .inv)

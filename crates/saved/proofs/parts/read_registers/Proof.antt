@@ -53,7 +53,9 @@ loop-less : tie.Need-loop-less Inv-loop μ-loop
 loop-less c = omega arith
 
 loop-again : tie.Need-loop-again Inv-loop μ-loop
-loop-again c = stored (c .before .before .before .loop .inv) 0 (omega arith) (c .read-number .ensures ∙ read-register _ _ _ (c .before .before .loop-test .taken))
+loop-again c =
+    stored (c .before .before .before .loop .inv) 0 (omega arith)
+    (c .read-number .ensures ∙ read-register _ _ _ (c .before .before .loop-test .taken))
 
 same-length : tie.Need-same-length Inv-loop μ-loop
 same-length c = kept (c .before .loop .inv)

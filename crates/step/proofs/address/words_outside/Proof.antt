@@ -12,7 +12,8 @@ use Rattle.step.proofs.address.words_outside.Statement.{statement}
 use Rattle.step.proofs.address.words_outside.Tie as tie
 
 abbrev Inv-loop : tie.InvT-loop
-Inv-loop on length at broadcast found₀ j₀ found j = Found 32 (λ k. isSet on k && some (λ a. leb length a) (wordBytes (wordFrom at broadcast k))) found j
+Inv-loop on length at broadcast found₀ j₀ found j =
+    Found 32 (λ k. isSet on k && some (λ a. leb length a) (wordBytes (wordFrom at broadcast k))) found j
 
 abbrev μ-loop : tie.MeasureT-loop
 μ-loop on length at broadcast found₀ j₀ found j = 32 - j

@@ -26,7 +26,8 @@ sub-result-2 : tie.Need-sub-result-2
 sub-result-2 c = rw (read c) (omega (arith, neg c .small))
 
 cast-result-2 : tie.Need-cast-result-2
-cast-result-2 c = rw (toZ-ofZ (c .before .fits .d)) (natural _ (c .before .fits .d) (c .if1 .left) .plain, fits-natAbs tt (c .before .fits .d))
+cast-result-2 c =
+    rw (toZ-ofZ (c .before .fits .d)) (natural _ (c .before .fits .d) (c .if1 .left) .plain, fits-natAbs tt (c .before .fits .d))
 
 returns : tie.Need-returns
 returns c = rw (read c) (neg c .is)

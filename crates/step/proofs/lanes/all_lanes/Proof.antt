@@ -11,7 +11,8 @@ use Rattle.step.proofs.lanes.all_lanes.Statement.{statement}
 use Rattle.step.proofs.lanes.all_lanes.Tie as tie
 
 abbrev Inv-loop : tie.InvT-loop
-Inv-loop on operation mode ue d f x halves₀ flags₀ j₀ halves flags j = Filled (λ k. cond (isSet on k) (laneAt (isSet on) operation mode ue d f x k .half) 0) 32 halves₀ halves j
+Inv-loop on operation mode ue d f x halves₀ flags₀ j₀ halves flags j =
+    Filled (λ k. cond (isSet on k) (laneAt (isSet on) operation mode ue d f x k .half) 0) 32 halves₀ halves j
     × Ored (λ k. cond (isSet on k) (laneAt (isSet on) operation mode ue d f x k .flags) 0) flags j
 
 abbrev μ-loop : tie.MeasureT-loop
@@ -62,7 +63,8 @@ loop-again c =
     let args = turn .before .args in
     let on = isSet (args .on) in
     let lane = laneAt on (args .operation) (args .mode) (args .ue) (args .t5) (args .t6) (args .t7) (turn .loop .j) in (
-      more (turn .loop .inv .0) (omega arith) (rw (c .before .lane-if .ensures, c .before .before .has .ensures) (half-if (on (turn .loop .j)) lane)),
+      more (turn .loop .inv .0) (omega arith) (rw (c .before .lane-if .ensures, c .before .before .has .ensures)
+          (half-if (on (turn .loop .j)) lane)),
       or-more (turn .loop .inv .1) (rw (c .before .lane-if .ensures, c .before .before .has .ensures) (flags-if (on (turn .loop .j)) lane)),
     )
 

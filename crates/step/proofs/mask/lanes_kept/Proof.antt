@@ -11,7 +11,9 @@ below-requires : tie.Need-below-requires
 below-requires c κs = search needs
 
 returns-2 : tie.Need-returns-2
-returns-2 c = rw (c .below .ensures, c .before .if1 .left) (kept-some (c .before .before .args .on) (c .before .before .args .lanes) (c .before .before .pre))
+returns-2 c =
+    rw (c .below .ensures, c .before .if1 .left)
+    (kept-some (c .before .before .args .on) (c .before .before .args .lanes) (c .before .before .pre))
 
 pub lanes-kept-spec : {M : Type 1} → statement M
 lanes-kept-spec = tie.close (tie.spec returns below-requires returns-2)

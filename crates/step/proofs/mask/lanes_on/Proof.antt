@@ -8,7 +8,9 @@ below-requires : tie.Need-below-requires
 below-requires c κs = search needs
 
 returns : tie.Need-returns
-returns c = rw (c .below .ensures) (on-all (c .before .before .args .masks .now) (c .before .before .args .mask) (c .before .before .args .lanes) (c .before .if1 .taken))
+returns c =
+    rw (c .below .ensures) (on-all (c .before .before .args .masks .now) (c .before .before .args .mask) (c .before .before .args .lanes)
+    (c .before .if1 .taken))
 
 mul-result : tie.Need-mul-result
 mul-result c = search needs

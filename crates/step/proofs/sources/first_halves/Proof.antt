@@ -13,7 +13,9 @@ enum-known-first : tie.Need-enum-known-first
 enum-known-first c = search needs
 
 register-halves-requires : tie.Need-register-halves-requires
-register-halves-requires c κs = (c .before .before .before .before .pre .0, subst SourceIn (c .before .first .given .1) (c .before .before .before .before .pre .1))
+register-halves-requires c κs =
+    let start : tie.Start = c .before .before .before .before in
+    (start .pre .0, subst SourceIn (c .before .first .given .1) (start .pre .1))
 
 returns : tie.Need-returns
 unfolding table

@@ -17,7 +17,8 @@ word-from-requires c κs = search needs
 -- the lane is on
 known : (c : tie.After-word-from)
     → Inside (length (c .before .before .before .before .args .memory .now))
-    (wordFrom (c .before .before .before .before .args .at) (c .before .before .before .before .args .broadcast) (c .before .before .before .before .args .j))
+    (wordFrom (c .before .before .before .before .args .at) (c .before .before .before .before .args .broadcast)
+    (c .before .before .before .before .args .j))
 known c =
     inside (isSet (c .before .before .before .before .args .on)) _ _ _ _ (c .before .before .before .before .good .1 .0 .0)
     (c .before .before .before .before .pre .0) (c .before .before .before .before .pre .1)
@@ -27,7 +28,13 @@ half-at-requires : tie.Need-half-at-requires
 half-at-requires c κs = rw (c .word-from .ensures) (known c .below)
 
 returns : tie.Need-returns
-returns c = rw (← c .before .before .before .has .ensures, c .before .before .if1 .taken, known (c .before) .plain, ← c .before .word-from .ensures) (c .half-at .ensures)
+returns c =
+    rw (
+      ← c .before .before .before .has .ensures,
+      c .before .before .if1 .taken,
+      known (c .before) .plain,
+      ← c .before .word-from .ensures,
+    ) (c .half-at .ensures)
 
 returns-2 : tie.Need-returns-2
 returns-2 c = rw (← c .before .has .ensures, c .if1 .left)

@@ -12,7 +12,8 @@ use Rattle.step.proofs.sources.memory_halves.Statement.{statement}
 use Rattle.step.proofs.sources.memory_halves.Tie as tie
 
 abbrev Inv-loop : tie.InvT-loop
-Inv-loop on memory at broadcast halves₀ j₀ halves j = Filled (λ k. cond (isSet on k) (numberAt memory (wordBytes (wordFrom at broadcast k))) 0) 32 halves₀ halves j
+Inv-loop on memory at broadcast halves₀ j₀ halves j =
+    Filled (λ k. cond (isSet on k) (numberAt memory (wordBytes (wordFrom at broadcast k))) 0) 32 halves₀ halves j
 
 abbrev μ-loop : tie.MeasureT-loop
 μ-loop on memory at broadcast halves₀ j₀ halves j = 32 - j

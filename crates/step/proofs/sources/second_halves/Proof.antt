@@ -9,7 +9,9 @@ enum-known-second : tie.Need-enum-known-second
 enum-known-second c = search needs
 
 register-halves-requires : tie.Need-register-halves-requires
-register-halves-requires c κs = (c .before .before .before .before .before .pre .0, subst OperandIn (c .before .second .given .1) (c .before .before .before .before .before .pre .1))
+register-halves-requires c κs =
+    let start : tie.Start = c .before .before .before .before .before in
+    (start .pre .0, subst OperandIn (c .before .second .given .1) (start .pre .1))
 
 enum-known-second-2 : tie.Need-enum-known-second-2
 enum-known-second-2 c = search needs
@@ -18,7 +20,8 @@ address-requires : tie.Need-address-requires
 address-requires c κs = subst OperandIn (c .before .second2 .given .1) (c .before .before .before .before .before .pre .1)
 
 memory-halves-requires : tie.Need-memory-halves-requires
-memory-halves-requires c κs = rw (c .address .ensures) (rw (c .before .before .second2 .given .1) at (c .before .before .before .before .before .before .pre .2))
+memory-halves-requires c κs =
+    rw (c .address .ensures) (rw (c .before .before .second2 .given .1) at (c .before .before .before .before .before .before .pre .2))
 
 returns : tie.Need-returns
 returns c = rw (c .before .before .second .given .1) (c .register-halves .ensures)

@@ -15,11 +15,13 @@ has-sib-requires c κs = search needs
 
 returns : tie.Need-returns
 unfolding baseOf
-returns c = rw (← c .before .before .before .has-no-base .ensures, c .before .before .if1 .taken, ← c .before .has-sib .ensures, c .if2 .taken)
+returns c =
+    rw (← c .before .before .before .has-no-base .ensures, c .before .before .if1 .taken, ← c .before .has-sib .ensures, c .if2 .taken)
 
 returns-2 : tie.Need-returns-2
 unfolding baseOf
-returns-2 c = rw (← c .before .before .before .has-no-base .ensures, c .before .before .if1 .taken, ← c .before .has-sib .ensures, c .if2 .left)
+returns-2 c =
+    rw (← c .before .before .before .has-no-base .ensures, c .before .before .if1 .taken, ← c .before .has-sib .ensures, c .if2 .left)
 
 inverted-requires : tie.Need-inverted-requires
 inverted-requires c κs = search needs
@@ -32,7 +34,9 @@ register-requires c κs = search needs
 
 returns-3 : tie.Need-returns-3
 unfolding baseOf
-returns-3 c = rw (← c .before .before .before .before .has-no-base .ensures, c .before .before .before .if1 .left) (ap General (omega arith))
+returns-3 c =
+    let has-no-base = c .before .before .before .before .has-no-base in
+    rw (← has-no-base .ensures, c .before .before .before .if1 .left) (ap General (omega arith))
 
 pub base-spec : {M : Type 1} → statement M
 base-spec =

@@ -15,7 +15,8 @@ bits-requires c κs = search needs
 
 returns : tie.Need-returns
 unfolding indexOf
-returns c = rw (← c .before .before .has-sib .ensures, ← c .before .before .before .index-number .ensures, c .before .if1 .taken, c .bits .ensures)
+returns c =
+    rw (← c .before .before .has-sib .ensures, ← c .before .before .before .index-number .ensures, c .before .if1 .taken, c .bits .ensures)
 
 returns-2 : tie.Need-returns-2
 unfolding indexOf

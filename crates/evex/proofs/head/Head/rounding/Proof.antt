@@ -19,7 +19,12 @@ of-bits-requires c κs = search needs
 returns : tie.Need-returns
 unfolding rounding
 returns c =
-    rw (← c .before .before .before .embeds-rounding .ensures, c .before .before .if1 .taken, c .of-bits .ensures, c .before .length-bits .ensures)
+    rw (
+      ← c .before .before .before .embeds-rounding .ensures,
+      c .before .before .if1 .taken,
+      c .of-bits .ensures,
+      c .before .length-bits .ensures,
+    )
 
 returns-2 : tie.Need-returns-2
 unfolding rounding
