@@ -81,7 +81,8 @@ static void steps(void) {
 }
 
 static void saving(void) {
-    check(save(sizeof saved) == RIDGECROOK_DONE && saved[2] == 0x08 && saved[3] == 0xCD, "a save");
+    check(save(sizeof saved) == RIDGECROOK_DONE && saved[2] == 0x08 && saved[3] == 0xCD, "a save, and its length");
+    check(saved[7] == 0x1F && saved[8] == 0x80, "the control word after reset, saved");
     check(save(RIDGECROOK_SAVED_SIZE - 1) == RIDGECROOK_BAD_SIZE, "a target that is too short");
     check(load(saved, sizeof saved) == RIDGECROOK_DONE, "a load");
     check(load(NULL, 0) == RIDGECROOK_BAD_SAVED, "no saved form");
