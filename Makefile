@@ -13,7 +13,7 @@ export CARGO_TARGET_DIR := $(CURDIR)/target/cargo
 .PHONY: all demo test bench witness exhaustive clean
 all: $(MADE)
 
-# They are proved and compiled together: a line a crate. rt leaves a file that is unchanged as it is, however old.
+# All in one call of rt, which leaves a file that need not change as old as it is: touched, or make would come back each time.
 $(MADE) &: $(SOURCES)
 	@tools/prove
 	@touch -c $(MADE)
