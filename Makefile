@@ -1,25 +1,22 @@
-# make           the static library and the command, proved and compiled
+# make           every crate proved, the static library and the command compiled
 # make demo      the compaction of a small log (examples/compaction.c)
 # make test      the merge gate, .ci/run
 # make bench     speed, side by side with plain Rust
 # make witness   a million instructions by this machine's processor and the library (RIDGECROOK_STEPS)
 # make exhaustive  every pair of halves by both, half an hour on a core; options in ARGUMENTS
-SHELL := /bin/bash -o pipefail
 LIBRARY := target/staticlib/libridgecrook.a
-SOURCES := crates.txt $(shell find crates -type f)
+MADE := $(LIBRARY) target/bin/run target/stamp/half_laws
+SOURCES := crates.txt $(shell find crates -type f -not -path "*/must-fail/*")
 export CARGO_TARGET_DIR := $(CURDIR)/target/cargo
 
+.NOTPARALLEL:
 .PHONY: all demo test bench witness exhaustive clean
-all: $(LIBRARY) target/bin/run
+all: $(MADE)
 
-# Only rt's own lines are shown; what a crate's check says in full is in target/log/.
-$(LIBRARY): $(SOURCES)
-	@echo 'Proving the library, crate by crate: a few minutes the first time.'
-	@rt staticlib ridgecrook | grep --line-buffered '^rt:'
-
-target/bin/run: $(SOURCES)
-	@echo 'Proving the command over it.'
-	@rt check run | grep --line-buffered '^rt:'
+# All in one call of rt, which leaves a file that need not change as old as it is: touched, or make would come back each time.
+$(MADE) &: $(SOURCES)
+	@tools/prove
+	@touch -c $(MADE)
 
 demo: target/demo/compaction
 	@$<

@@ -165,7 +165,11 @@ static bool processor_has_fp16(void) {
     return (low & 0xE6) == 0xE6;
 }
 
-/* The kernel's own bytes, executed. */
+/*
+ * The kernel's own bytes, executed. gcc lets k1 be named as written only where the target has mask registers; so this function has them,
+ * and may be called only after processor_has_fp16 said yes. vzeroupper clears the upper parts of xmm0 to xmm15, whatever holds them.
+ */
+__attribute__((target("avx512f")))
 static bool view_c(const uint8_t *log, const uint8_t *query, size_t record, score *out) {
     const uint8_t *address = log + record * RECORD_SIZE;
     uint64_t tail = 0xFF;
@@ -183,7 +187,8 @@ static bool view_c(const uint8_t *log, const uint8_t *query, size_t record, scor
                      "vzeroupper"
                      :
                      : "a"(address), "b"(address + 2 * HALVES), [query] "r"(query), [tail] "r"(tail), [out] "r"(out->bytes)
-                     : "memory", "xmm0", "xmm1", "xmm2", "xmm3");
+                     : "memory", "k1", "xmm0", "xmm1", "xmm2", "xmm3", "xmm4", "xmm5", "xmm6", "xmm7", "xmm8", "xmm9", "xmm10",
+                       "xmm11", "xmm12", "xmm13", "xmm14", "xmm15");
     _mm_setcsr(before);
     return true;
 }

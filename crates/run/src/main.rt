@@ -1,9 +1,61 @@
-// The command of document 01, from standard input to standard output. All that it does is the crate `command`. The longest good input
-// has 39,123 bytes, so of input that is longer than the buffer the part that is read is bad too.
+// The command of document 01, from standard input to standard output. All that it does is the crate `command`.
+ghost use Prim.Native.Nat.{_+_, _≤_};
+ghost use lib.ListN.{length};
+
+// How many bytes came, and whether a read failed.
+struct Input {
+    count: usize,
+    failed: bool,
+}
+
+// One read of standard input, to a place of the buffer.
+fn read_to(buf: &mut [u8], at: usize) -> Input
+    requires { ⌜ at ≤ length (now buf) ⌝ }
+    ensures { λ r. ⌜ at + r .count ≤ length (now (buf .entry)) ⌝ }
+{
+    let rest = &mut buf[at..];
+    let got = libc::read(libc::STDIN_FILENO, rest);
+    Input {
+        count: io::count(got, rest),
+        failed: got < 0,
+    }
+}
+
+// Reads until the buffer is full, the input ends or a read fails. `io::read_full` does not tell the last two apart, and one read more
+// would not either: a connection that was reset says so once, and then that the input has ended.
+fn read_input(buf: &mut [u8]) -> Input
+    ensures { λ r. ⌜ r .count ≤ length (now (buf .exit)) ⌝ }
+{
+    let mut count = 0;
+    while count < buf.len() {
+        let more = read_to(buf, count);
+        if more.count == 0 {
+            return Input {
+                count,
+                failed: more.failed,
+            };
+        }
+        count += more.count;
+    }
+    Input {
+        count,
+        failed: false,
+    }
+}
+
+// The longest good input has 39,123 bytes, so of input that is longer than the buffer the part that is read is bad too.
 fn main() {
-    let mut input = io::large_buffer();
+    let mut buf = io::large_buffer();
     let mut output = io::large_buffer();
-    let n = io::read_full(0, &mut input);
-    let m = command::command(&input[0..n], &mut output);
-    io::write_all(1, &output[0..m]);
+    let input = read_input(&mut buf);
+    if input.failed {
+        io::write_all(
+            libc::STDERR_FILENO,
+            b"run: standard input could not be read\n",
+        );
+        return;
+    }
+    let n = input.count;
+    let m = command::command(&buf[0..n], &mut output);
+    io::write_all(libc::STDOUT_FILENO, &output[0..m]);
 }

@@ -1,0 +1,101 @@
+/*
+ * The header by itself, before any other: every function and every constant of it, in a file that is C99, C11 and C++ alike. The
+ * constants are held against what calls answer, so a wrong number shows.
+ */
+#include "ridgecrook.h"
+
+#include "check.h"
+
+static const uint8_t ADD[] = {0x62, 0xF5, 0x74, 0x48, 0x58, 0xC2};        /* vaddph zmm0, zmm1, zmm2 */
+static const uint8_t ADD_MEMORY[] = {0x62, 0xF5, 0x74, 0x48, 0x58, 0x00}; /* vaddph zmm0, zmm1, [rax] */
+static const uint8_t NO_MAP[] = {0x62, 0xFD, 0x74, 0x48, 0x58, 0xC2};     /* byte 1 bit 3 set */
+static const uint8_t OTHER[] = {0x62, 0xF5, 0x74, 0x48, 0x5A, 0xC2};      /* opcode 5A */
+
+static uint8_t vectors[RIDGECROOK_VECTORS_SIZE];
+static uint64_t masks[RIDGECROOK_MASKS];
+static uint64_t general[RIDGECROOK_GENERAL];
+static uint32_t control = RIDGECROOK_CONTROL_RESET;
+static uint64_t pointer;
+static uint8_t saved[RIDGECROOK_SAVED_SIZE];
+
+static void set_lane(size_t place, uint16_t half) {
+    vectors[place] = (uint8_t)(half & 0xFF);
+    vectors[place + 1] = (uint8_t)(half >> 8);
+}
+
+static uint32_t step(size_t vectors_length, const uint8_t *code, size_t code_length) {
+    return ridgecrook_step(vectors, vectors_length, masks, general, &control, &pointer, code, code_length, NULL, 0).number;
+}
+
+static uint32_t save(size_t target_length) {
+    return ridgecrook_save(vectors, sizeof vectors, masks, general, control, pointer, saved, target_length);
+}
+
+static uint32_t load(const uint8_t *form, size_t length) {
+    return ridgecrook_load(form, length, vectors, sizeof vectors, masks, general, &control, &pointer);
+}
+
+static int is(ridgecrook_rounded r, unsigned half, unsigned flags) {
+    return r.half == half && r.flags == flags && r.number == RIDGECROOK_DONE;
+}
+
+static void operations(void) {
+    check(is(ridgecrook_add(0x3C00, 0x4000, RIDGECROOK_NEAREST, 0), 0x4200, 0), "1 + 2");
+    check(is(ridgecrook_subtract(0x3C00, 0x4000, RIDGECROOK_NEAREST, 0), 0xBC00, 0), "1 - 2");
+    check(is(ridgecrook_multiply(0x4000, 0x4200, RIDGECROOK_NEAREST, 0), 0x4600, 0), "2 * 3");
+    check(is(ridgecrook_divide(0x4600, 0x4000, RIDGECROOK_NEAREST, 0), 0x4200, 0), "6 / 2");
+    check(is(ridgecrook_square_root(0x4400, RIDGECROOK_NEAREST, 0), 0x4000, 0), "the root of 4");
+    check(is(ridgecrook_fused_multiply_add(0x4000, 0x4200, 0x3C00, RIDGECROOK_NEAREST, 0), 0x4700, 0), "2 * 3 + 1");
+}
+
+static void modes(void) {
+    check(is(ridgecrook_divide(0x3C00, 0x4200, RIDGECROOK_NEAREST, 0), 0x3555, RIDGECROOK_PE), "1 / 3, nearest");
+    check(is(ridgecrook_divide(0xBC00, 0x4200, RIDGECROOK_DOWN, 0), 0xB556, RIDGECROOK_PE), "-1 / 3, down");
+    check(is(ridgecrook_divide(0x3C00, 0x4200, RIDGECROOK_UP, 0), 0x3556, RIDGECROOK_PE), "1 / 3, up");
+    check(is(ridgecrook_divide(0xBC00, 0x4200, RIDGECROOK_TOWARD_ZERO, 0), 0xB555, RIDGECROOK_PE), "-1 / 3, toward zero");
+    check(ridgecrook_add(0, 0, RIDGECROOK_TOWARD_ZERO + 1, 0).number == RIDGECROOK_BAD_MODE, "a mode above the last");
+}
+
+static void flags(void) {
+    check(is(ridgecrook_square_root(0xBC00, RIDGECROOK_NEAREST, 0), 0xFE00, RIDGECROOK_IE), "the root of -1");
+    check(is(ridgecrook_add(0x0001, 0x0001, RIDGECROOK_NEAREST, 0), 0x0002, RIDGECROOK_DE), "subnormal operands");
+    check(is(ridgecrook_divide(0x3C00, 0x0000, RIDGECROOK_NEAREST, 0), 0x7C00, RIDGECROOK_ZE), "1 / 0");
+    check(is(ridgecrook_add(0x7BFF, 0x7BFF, RIDGECROOK_NEAREST, 0), 0x7C00, RIDGECROOK_OE | RIDGECROOK_PE), "overflow");
+    check(is(ridgecrook_multiply(0x0400, 0x3800, RIDGECROOK_NEAREST, 1), 0x0200, RIDGECROOK_UE), "underflow, unmasked");
+}
+
+static void steps(void) {
+    check(step(sizeof vectors, ADD, sizeof ADD) == RIDGECROOK_DONE && pointer == sizeof ADD, "a step");
+    check(step(RIDGECROOK_VECTORS_SIZE - 1, ADD, sizeof ADD) == RIDGECROOK_BAD_SIZE, "a vector file that is too short");
+    check(step(sizeof vectors, NULL, 0) == RIDGECROOK_CUT_SHORT, "no code");
+    check(step(sizeof vectors, OTHER, sizeof OTHER) == RIDGECROOK_NOT_LISTED, "another instruction");
+    check(step(sizeof vectors, NO_MAP, sizeof NO_MAP) == RIDGECROOK_RESERVED, "a reserved encoding");
+    check(step(sizeof vectors, ADD_MEMORY, sizeof ADD_MEMORY) == RIDGECROOK_OUTSIDE_MEMORY, "no memory");
+    set_lane(RIDGECROOK_REGISTER_SIZE, 0x0001);
+    control = 0x1E80;
+    check(step(sizeof vectors, ADD, sizeof ADD) == RIDGECROOK_EXCEPTION && control == (0x1E80 | RIDGECROOK_DE), "DE unmasked");
+    control = 0x10000;
+    check(step(sizeof vectors, ADD, sizeof ADD) == RIDGECROOK_BAD_CONTROL, "a control word with bit 16");
+    control = RIDGECROOK_CONTROL_RESET;
+    check(RIDGECROOK_TOO_LONG == 6, "the one answer that no call gives");
+}
+
+static void saving(void) {
+    check(save(sizeof saved) == RIDGECROOK_DONE && saved[2] == 0x08 && saved[3] == 0xCD, "a save, and its length");
+    check(saved[7] == 0x1F && saved[8] == 0x80, "the control word after reset, saved");
+    check(save(RIDGECROOK_SAVED_SIZE - 1) == RIDGECROOK_BAD_SIZE, "a target that is too short");
+    check(load(saved, sizeof saved) == RIDGECROOK_DONE, "a load");
+    check(load(NULL, 0) == RIDGECROOK_BAD_SAVED, "no saved form");
+}
+
+int main(void) {
+    check(sizeof(ridgecrook_rounded) == 4 && sizeof(ridgecrook_answer) == 8, "structs without padding");
+    check(RIDGECROOK_VECTORS_SIZE == 32 * RIDGECROOK_REGISTER_SIZE, "32 vector registers");
+    check(sizeof masks == 64 && sizeof general == 128, "8 masks and 16 general registers");
+    operations();
+    modes();
+    flags();
+    steps();
+    saving();
+    return finish();
+}
