@@ -82,12 +82,12 @@ module _ (HiddenLane HiddenByte : ℕ → Type 0) where
       first-equal source.None = refl
       first-equal (source.Register n) = registers-equal n
 
-      seeither-equal : (x : Operand) → ((j : ℕ) → on s i j ≡ true → Each (λ a. a < length memory₁ → ¬ HiddenByte a) (bytesRead s i x j))
+      second-equal : (x : Operand) → ((j : ℕ) → on s i j ≡ true → Each (λ a. a < length memory₁ → ¬ HiddenByte a) (bytesRead s i x j))
           → secondHalves (on s i) (s .vectors) memory₁ (s .general) (nextPointer s i) x ≡ secondHalves (on s i) v memory₂ (s .general)
           (nextPointer s i) x
       unfolding bytesRead memoryHalves
-      seeither-equal (operand.Register n) bytes = registers-equal n
-      seeither-equal (operand.Memory a broadcast) bytes =
+      second-equal (operand.Register n) bytes = registers-equal n
+      second-equal (operand.Memory a broadcast) bytes =
           table-equal 32 (λ j k. either-equal 0 (on s i j)
           (λ t. numbers-equal memories (bytesRead s i (operand.Memory a broadcast) j) (bytes j t)))
 
@@ -98,7 +98,7 @@ module _ (HiddenLane HiddenByte : ℕ → Type 0) where
           record {
             destination = registers-equal (i .destination) x;
             first = first-equal (i .first) x;
-            second = seeither-equal (i .second) bytes x;
+            second = second-equal (i .second) bytes x;
           }
 
     -- ---- what is written
