@@ -146,12 +146,23 @@ overflow-ge mode neg = go (isNearest mode || outward mode neg)
     go true = omega arith
     go false = omega arith
 
+-- ---- the flags, with overflow or without
+
+pub flags-are : (mode : Mode) (unmaskedUE neg : Bool) (x : Magnitude) → (roundedHalf mode unmaskedUE neg x) .flags
+    ≡ cond (overflows mode neg x) (bitOr OE PE) (bitOr (flag PE (inexact mode neg x)) (flag UE (tiny mode neg x && (unmaskedUE || inexact mode neg x))))
+unfolding roundedHalf
+flags-are mode unmaskedUE neg x = inside (overflows mode neg x) _ _
+  where
+    inside : (o : Bool) (p q : Outcome) → (cond o p q) .flags ≡ cond o (p .flags) (q .flags)
+    inside true p q = refl
+    inside false p q = refl
+
 -- OE, bit 3, says whether there was overflow
 pub overflow-flag : (mode : Mode) (unmaskedUE neg : Bool) (x : Magnitude) → raises OE mode unmaskedUE neg x ≡ overflows mode neg x
-unfolding roundedHalf
-overflow-flag mode unmaskedUE neg x = go (overflows mode neg x) (inexact mode neg x) (tiny mode neg x && (unmaskedUE || inexact mode neg x))
+overflow-flag mode unmaskedUE neg x =
+    rw (flags-are mode unmaskedUE neg x) (go (overflows mode neg x) (inexact mode neg x) (tiny mode neg x && (unmaskedUE || inexact mode neg x)))
   where
-    go : (o i u : Bool) → eqb ((cond o (result (withSign neg (overflowFields mode neg)) (bitOr OE PE)) (result (withSign neg (encode (delivered mode neg x))) (bitOr (flag PE i) (flag UE u)))) .flags / OE % 2) 1 ≡ o
+    go : (o i u : Bool) → eqb (cond o (bitOr OE PE) (bitOr (flag PE i) (flag UE u)) / OE % 2) 1 ≡ o
     go true i u = refl
     go false true true = refl
     go false true false = refl

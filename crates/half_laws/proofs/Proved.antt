@@ -1,16 +1,19 @@
 -- Each law of specs/Laws.antt and its proof, in the order of that file.
 use Prim.Native.Nat.{ℕ, _+_, _*_, _^_, _<_, Ordering, Ordering·lt, Ordering·eq, Ordering·gt}
-use mathlib.Core.Bool.{Bool, true, false, not}
+use mathlib.Core.Bool.{Bool, true, false, not, _&&_, _||_, cond}
+use mathlib.Core.List.{[], _∷_}
 use mathlib.Core.Logic.{_≢_, _↔_}
 use mathlib.Core.Path.{_≡_, refl, sym, ap, _∙_}
 use native.Mathlib.Omega.{arith}
 use native.Mathlib.Nat.{lt-of-le-of-lt, le-of-eq}
-use lib.Dec.{isEq}
+use lib.Bits.{bitOr}
+use lib.Dec.{isEq, eqb}
 use borrow.Author.Tests.{lt-leb, le-leb, leb-true}
+use Rattle.lists.specs.Lists.{some}
 use Rattle.half.specs.Format.{isFinite, negative, withSign, units}
 use Rattle.half.specs.Exact.{Magnitude, denominator, against, whole, isNearest}
 use Rattle.half.specs.Round as round
-use Rattle.half.specs.Round.{overflows, encode}
+use Rattle.half.specs.Round.{OE, UE, PE, flag, overflows, tiny, encode}
 use Rattle.half.specs.declared.Mode.{Mode}
 use Rattle.half.specs.declared.Mode.the-variants.{Nearest, Down, Up, TowardZero}
 use Rattle.half.specs.declared.Outcome.{Outcome}
@@ -18,7 +21,7 @@ use Rattle.half.proofs.Cuts.{whole-spec}
 use Rattle.half.proofs.Bridge.{right-zero}
 use Rattle.half.proofs.Units.{finite-lt}
 use Rattle.half_laws.specs.Values.{AtLeast, Equals, HalfNotAbove, HalfNotBelow}
-use Rattle.half_laws.specs.Laws.{halfOf, afterOverflow, NearestTo, WholeUnitsLaw, DeliveredHalfLaw, NearestLaw, DownLaw, UpLaw, TowardZeroLaw, InexactLaw, OverflowFlagLaw, OverflowLaw, OverflowGridLaw, TooLargeLaw, UnderflowFlagLaw, TooSmallLaw, FinerLaw, ElevenBitsLaw, ExactLaw, OrderLaw, HalfOrderLaw}
+use Rattle.half_laws.specs.Laws.{halfOf, afterOverflow, NearestTo, WholeUnitsLaw, DeliveredHalfLaw, NearestLaw, DownLaw, UpLaw, TowardZeroLaw, InexactLaw, OverflowFlagLaw, OverflowLaw, OverflowGridLaw, TooLargeLaw, UnderflowFlagLaw, TooSmallLaw, FlagsLaw, FinerLaw, ElevenBitsLaw, ExactLaw, OrderLaw, HalfOrderLaw}
 use Rattle.half_laws.proofs.Sides.{least-ge, ge-least, le-most, lt-below, equals-eq, above-gt}
 use Rattle.half_laws.proofs.Grid as grid
 use Rattle.half_laws.proofs.Grid.{half-on-grid, none-nearer, tie-even}
@@ -149,13 +152,28 @@ too-small = limits-below.too-small
 
 -- ---- 7
 
+pub flags : FlagsLaw
+flags mode unmaskedUE neg x =
+    rw (given.flags-are mode unmaskedUE neg x)
+    (go (overflows mode neg x) (round.inexact mode neg x) (tiny mode neg x && (unmaskedUE || round.inexact mode neg x)))
+  where
+    go : (o i u : Bool)
+        → some (eqb (cond o (bitOr OE PE) (bitOr (flag PE i) (flag UE u)))) (0 ∷ UE ∷ PE ∷ bitOr UE PE ∷ bitOr OE PE ∷ []) ≡ true
+    go true i u = refl
+    go false true true = refl
+    go false true false = refl
+    go false false true = refl
+    go false false false = refl
+
+-- ---- 8
+
 pub finer : FinerLaw
 finer = exactness.finer
 
 pub eleven-bits : ElevenBitsLaw
 eleven-bits mode neg x hd a = exactness.eleven mode neg x hd (lt-of-le-of-lt (le-of-eq (sym (right-zero x))) (above-gt x 0 1 a))
 
--- ---- 8
+-- ---- 9
 
 pub exact : ExactLaw
 exact mode unmaskedUE x hd h small finite e =
@@ -167,7 +185,7 @@ exact mode unmaskedUE x hd h small finite e =
       given.inexact-flag mode s x hd f unmaskedUE ∙ ap (λ (o : Ordering). not (isEq o)) i,
     )
 
--- ---- 9
+-- ---- 10
 
 pub order : OrderLaw
 order mode neg x y hx hy l = ordered.order-kept x y hx hy (ordered.leq-ordered x y hx hy l) mode neg
