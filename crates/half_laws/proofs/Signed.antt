@@ -1,12 +1,12 @@
 -- Signed numbers by their signs and magnitudes: sums, products, and a half with its sign turned.
 use Prim.Native.Nat.{ℕ, zero, suc, _+_, _-_, _*_, _/_, _^_, _≤_, _<_}
-use mathlib.Core.Bool.{Bool, true, false, not, _&&_, _||_, Bool·beq, false≢true}
+use mathlib.Core.Bool.{Bool, true, false, not, Bool·beq, false≢true}
 use mathlib.Core.Path.{_≡_, refl, sym, ap, _∙_}
 use native.Mathlib.Omega.{arith}
 use native.Mathlib.Nat.{zero-div, zero-mod, mul-comm}
 use lib.Bits.{bitXor, xor-shr}
 use lib.Dec.{eqb, ltb}
-use lib.IntN.{ℤ, pos, negsuc, negℤ, natAbs, _+ℤ_, _-ℤ_, _*ℤ_, negℤ-negℤ, negℤ-+ℤ, +ℤ-comm, +ℤ-negℤ-cancel, *ℤ-comm, *ℤ-zero, *ℤ-negsuc}
+use lib.IntN.{ℤ, pos, negℤ, natAbs, _+ℤ_, _*ℤ_, negℤ-negℤ, negℤ-+ℤ, +ℤ-comm, +ℤ-negℤ-cancel, *ℤ-comm, *ℤ-zero, *ℤ-negsuc}
 use borrow.Author.Tests.{ltb-true, ltb-false}
 use Rattle.half.specs.Format.{isFinite, isSubnormal, negative, negated, withSign, units}
 use Rattle.half.specs.Exact.{ratio}
@@ -71,6 +71,13 @@ other false true u = (refl, refl)
 other false false u = absurd (false≢true (sym u))
 
 -- ---- `exactSum` rounds the sum
+
+cancelled-is : (mode : Mode) → withSign (cancelledSign mode) 0 ≡ cancelled mode
+cancelled-is Nearest = refl
+cancelled-is Down = refl
+cancelled-is Up = refl
+cancelled-is TowardZero = refl
+
 module _ (mode : Mode) (unmaskedUE : Bool) (d : ℕ) (hd : 0 < d) where
   -- the number v / d; a zero has the sign z
   abbrev pub number : ℤ → Bool → Outcome
@@ -86,17 +93,13 @@ module _ (mode : Mode) (unmaskedUE : Bool) (d : ℕ) (hd : 0 < d) where
   unfolding place
   zero-number z = sym (placed-ratio mode unmaskedUE z 0 d hd (rw (zero-div d, zero-mod d)) (zero-rounds mode unmaskedUE z))
 
-  cancelled-is : (mode : Mode) → withSign (cancelledSign mode) 0 ≡ cancelled mode
-  cancelled-is Nearest = refl
-  cancelled-is Down = refl
-  cancelled-is Up = refl
-  cancelled-is TowardZero = refl
-
-  pub sum-number : (s : Bool) (x : ℕ) (t : Bool) (y : ℕ) → exactSum mode unmaskedUE s x t y d ≡ number (signed s x +ℤ signed t y) (zeroSign mode s t)
+  pub sum-number : (s : Bool) (x : ℕ) (t : Bool) (y : ℕ)
+      → exactSum mode unmaskedUE s x t y d ≡ number (signed s x +ℤ signed t y) (zeroSign mode s t)
   unfolding exactSum
   sum-number s x t y = go (Bool·beq s t) (ltb y x) (ltb x y) refl refl refl
     where
-      go : (l b c : Bool) → Bool·beq s t ≡ l → ltb y x ≡ b → ltb x y ≡ c → exactSum mode unmaskedUE s x t y d ≡ number (signed s x +ℤ signed t y) (zeroSign mode s t)
+      go : (l b c : Bool) → Bool·beq s t ≡ l → ltb y x ≡ b → ltb x y ≡ c
+          → exactSum mode unmaskedUE s x t y d ≡ number (signed s x +ℤ signed t y) (zeroSign mode s t)
       go true b c p q r = let e : s ≡ t = beq-eq s t p in rw (p, ← e, like-sum s x y) (sym (own-sign s (x + y)))
       go false true c p q r =
           let h : y < x = ltb-true _ _ q in
@@ -109,7 +112,8 @@ module _ (mode : Mode) (unmaskedUE : Bool) (d : ℕ) (hd : 0 < d) where
           let h : x ≤ y = ltb-false _ _ q in
           let k : y ≤ x = ltb-false _ _ r in
           let e : x - y ≡ 0 = omega arith in
-          rw (p, q, r, unlike-sum s t (other s t p .0) x y k, e, zero-signed s) (sym (zero-number (cancelledSign mode) ∙ ap exactly (cancelled-is mode)))
+          rw (p, q, r, unlike-sum s t (other s t p .0) x y k, e, zero-signed s)
+          (sym (zero-number (cancelledSign mode) ∙ ap exactly (cancelled-is mode)))
 
 -- ---- products
 
