@@ -69,7 +69,7 @@ pub root : RootLaw
 root mode unmaskedUE a fa plus nz =
     record {
       above = omega arith;
-      outcome = finite-root a (rw (fa, plus, nz)) mode unmaskedUE ∙ rw (again (isSubnormal a), again (isSubnormal a));
+      outcome = rw (← again (isSubnormal a), ← again (isSubnormal a)) (finite-root a (rw (fa, plus, nz)) mode unmaskedUE);
     }
 
 pub multiply-add : MultiplyAddLaw
