@@ -32,7 +32,8 @@ signOf (negsuc n) z = true
 
 -- ---- rounding
 
--- o is ± x rounded, with DE beside where an operand is subnormal, and no other flag. Laws.antt is about an x with a denominator above 0.
+-- o is ± x rounded: the half and the flags of that rounding, and DE beside them where an operand is subnormal. x has a denominator
+-- above 0, as Laws.antt asks.
 pub record Rounds (mode : Mode) (unmaskedUE : Bool) (operands : List ℕ) (neg : Bool) (x : Magnitude) (o : Outcome) : Type 0 where
   pub above : 0 < denominator x
   pub outcome : o ≡ withDenormals operands (roundedHalf mode unmaskedUE neg x)
