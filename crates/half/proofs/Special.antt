@@ -29,10 +29,10 @@ two-denormals : (a b : ℕ) {de : ℕ} → de ≡ flag DE (some isSubnormal (a �
 two-denormals a b e = rw (← again (isSubnormal b)) (sym e)
 
 -- the other sign makes no NaN
-exponent-negated : (h : ℕ) → exponentField (negated h) ≡ exponentField h
+pub exponent-negated : (h : ℕ) → exponentField (negated h) ≡ exponentField h
 exponent-negated h = ap (λ (n : ℕ). n % 32) (xor-shr h 0x8000 10) ∙ xor-mod (h / 1024) 32 5 ∙ xor-zero-r (h / 1024 % 32)
 
-ratio-negated : (h : ℕ) → fractionField (negated h) ≡ fractionField h
+pub ratio-negated : (h : ℕ) → fractionField (negated h) ≡ fractionField h
 ratio-negated h = xor-mod h 0x8000 10 ∙ xor-zero-r (h % 1024)
 
 nan-negated : (h : ℕ) → isNan (negated h) ≡ isNan h

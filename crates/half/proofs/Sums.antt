@@ -24,7 +24,7 @@ use Rattle.half.proofs.Normals.{normal-units, normal-add, normal-multip
 use Rattle.half.proofs.Sticky.{sticky-shift, less-scale, ltb-scale, sum-scale}
 use Rattle.half.proofs.Steps.{zero-rounds}
 
-beq-eq : (p q : Bool) → Bool·beq p q ≡ true → p ≡ q
+pub beq-eq : (p q : Bool) → Bool·beq p q ≡ true → p ≡ q
 beq-eq true true e = refl
 beq-eq true false e = cc
 beq-eq false true e = cc

@@ -1,4 +1,4 @@
--- Proved gathers the laws of specs/Laws.antt; the others are what it cites.
+-- Proved gathers the laws of specs/Laws.antt, and Operated those of specs/Operations.antt; the others are what they cite.
 pub mod Sides
 pub mod Grid
 pub mod Fields
@@ -9,3 +9,5 @@ pub mod Overflow
 pub mod Underflow
 pub mod Directed
 pub mod Proved
+pub mod Signed
+pub mod Operated

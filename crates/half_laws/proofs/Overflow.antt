@@ -9,12 +9,10 @@ use borrow.Author.Tests.{leb-true, le-leb}
 use Rattle.half.specs.Exact.{Magnitude, denominator, against, isNearest, outward}
 use Rattle.half.specs.Round.{delivered, overflows, encode}
 use Rattle.half.specs.declared.Mode.{Mode}
-use Rattle.half.specs.declared.Mode.the-variants.{Nearest, Down, Up, TowardZero}
 use Rattle.half.proofs.Cuts.{left, right, against-scale, right-mono, scale-ge, ge-scale}
 use Rattle.half.proofs.Bridge.{encode-is}
 use Rattle.half.proofs.Units.{finite-le}
 use Rattle.half_laws.specs.Values.{AtLeast, Above}
-use Rattle.half_laws.specs.Laws.{TooLarge}
 use Rattle.half_laws.proofs.Sides.{Le, Ge, right-back, least-ge, ge-least, above-gt, gt-above}
 use Rattle.half_laws.proofs.Grid.{OnGrid, toward-zero, away-from-zero, none-nearer, tie-even}
 use Rattle.half_laws.proofs.Fields.{signed-finite}
@@ -39,27 +37,30 @@ module _ (mode : Mode) (neg : Bool) (x : Magnitude) (hd : 0 < denominator x) whe
 
   -- what is delivered below 2 ^ 40 is a half, so at most the largest
   to-top : D < 2 ^ 40 → D ≤ top
-  to-top h = le-trans (le-of-eq (sym (delivered-is mode neg x hd h))) (finite-le (encode D) (signed-finite false (encode D) (fields-fit mode neg x hd h)))
+  to-top h =
+      le-trans (le-of-eq (sym (delivered-is mode neg x hd h)))
+      (finite-le (encode D) (signed-finite false (encode D) (fields-fit mode neg x hd h)))
 
   -- a bound on D, from what follows without it
   reaches : (D < 2 ^ 40 → ⊥) → 2 ^ 40 ≤ D
   reaches f = le-of-suc-le-suc (lt-of-not-le (λ (h : suc D ≤ 2 ^ 40). f h))
 
-  inward-from : isNearest mode ≡ false → outward mode neg ≡ false → (2 ^ 40 ≤ D) ↔ Ge x (65536 * 2 ^ 24) (2 ^ 24)
+  pub inward-from : isNearest mode ≡ false → outward mode neg ≡ false → (2 ^ 40 ≤ D) ↔ Ge x (65536 * 2 ^ 24) (2 ^ 24)
   inward-from e o =
       let t = toward-zero 24 x hd mode neg e o in (
         λ (h : 2 ^ 40 ≤ D). le-trans (right-mono x {a = 2 ^ 40} {c = D} h) (t .0),
         λ (g : Ge x (2 ^ 40) (2 ^ 24)). t .1 (2 ^ 40) next-on-grid g,
       )
 
-  outward-from : isNearest mode ≡ false → outward mode neg ≡ true → (2 ^ 40 ≤ D) ↔ (right x (65504 * 2 ^ 24) < left x (2 ^ 24))
+  pub outward-from : isNearest mode ≡ false → outward mode neg ≡ true → (2 ^ 40 ≤ D) ↔ (right x (65504 * 2 ^ 24) < left x (2 ^ 24))
   outward-from e o =
       let t = away-from-zero 24 x hd mode neg e o in (
         λ (h : 2 ^ 40 ≤ D). lt-of-not-le (λ (k : Le x top (2 ^ 24)). let l : D ≤ top = t .1 top top-on-grid k in omega arith),
-        λ (g : right x top < left x (2 ^ 24)). reaches (λ (h : D < 2 ^ 40). not-le-of-lt g (le-trans (t .0) (right-mono x {a = D} {c = top} (to-top h)))),
+        λ (g : right x top < left x (2 ^ 24)).
+            reaches (λ (h : D < 2 ^ 40). not-le-of-lt g (le-trans (t .0) (right-mono x {a = D} {c = top} (to-top h)))),
       )
 
-  nearest-from : isNearest mode ≡ true → (2 ^ 40 ≤ D) ↔ Ge x (65520 * 2 ^ 24) (2 ^ 24)
+  pub nearest-from : isNearest mode ≡ true → (2 ^ 40 ≤ D) ↔ Ge x (65520 * 2 ^ 24) (2 ^ 24)
   nearest-from e = (
     λ (h : 2 ^ 40 ≤ D).
         let b : Ge x (D + top) (2 ^ 25) = none-nearer 24 x hd mode neg e top top-on-grid .1 (omega arith) in
@@ -79,28 +80,23 @@ module _ (mode : Mode) (neg : Bool) (x : Magnitude) (hd : 0 < denominator x) whe
           omega arith
 
   over : (overflows mode neg x ≡ true) ↔ (2 ^ 40 ≤ D)
-  over = (λ (e : overflows mode neg x ≡ true). leb-true _ _ (sym (overflows-is mode neg x hd) ∙ e), λ (h : 2 ^ 40 ≤ D). overflows-is mode neg x hd ∙ le-leb _ _ h)
+  over = (
+    λ (e : overflows mode neg x ≡ true). leb-true _ _ (sym (overflows-is mode neg x hd) ∙ e),
+    λ (h : 2 ^ 40 ≤ D). overflows-is mode neg x hd ∙ le-leb _ _ h,
+  )
 
   -- a whole number, in units of 2 ^ -24
   scaled : (a : ℕ) → against x (a * 2 ^ 24) (2 ^ 24) ≡ against x a 1
   scaled a = against-scale x a 1 (2 ^ 24) (omega arith)
 
-  at-least : (a : ℕ) → (2 ^ 40 ≤ D) ↔ Ge x (a * 2 ^ 24) (2 ^ 24) → (overflows mode neg x ≡ true) ↔ AtLeast x a 1
+  pub at-least : (a : ℕ) → (2 ^ 40 ≤ D) ↔ Ge x (a * 2 ^ 24) (2 ^ 24) → (overflows mode neg x ≡ true) ↔ AtLeast x a 1
   at-least a f = (
     λ (e : overflows mode neg x ≡ true). rw (scaled a) at (ge-least x (a * 2 ^ 24) (2 ^ 24) (f .0 (over .0 e))),
     λ (l : AtLeast x a 1). over .1 (f .1 (least-ge x (a * 2 ^ 24) (2 ^ 24) (rw (scaled a) l))),
   )
 
-  above : (a : ℕ) → (2 ^ 40 ≤ D) ↔ (right x (a * 2 ^ 24) < left x (2 ^ 24)) → (overflows mode neg x ≡ true) ↔ Above x a 1
+  pub above : (a : ℕ) → (2 ^ 40 ≤ D) ↔ (right x (a * 2 ^ 24) < left x (2 ^ 24)) → (overflows mode neg x ≡ true) ↔ Above x a 1
   above a f = (
     λ (e : overflows mode neg x ≡ true). rw (scaled a) at (gt-above x (a * 2 ^ 24) (2 ^ 24) (f .0 (over .0 e))),
     λ (l : Above x a 1). over .1 (f .1 (above-gt x (a * 2 ^ 24) (2 ^ 24) (rw (scaled a) l))),
   )
-
-pub too-large : (mode : Mode) (neg : Bool) (x : Magnitude) → 0 < denominator x → (overflows mode neg x ≡ true) ↔ TooLarge mode neg x
-too-large Nearest neg x hd = at-least Nearest neg x hd 65520 (nearest-from Nearest neg x hd refl)
-too-large Down false x hd = at-least Down false x hd 65536 (inward-from Down false x hd refl refl)
-too-large Down true x hd = above Down true x hd 65504 (outward-from Down true x hd refl refl)
-too-large Up false x hd = above Up false x hd 65504 (outward-from Up false x hd refl refl)
-too-large Up true x hd = at-least Up true x hd 65536 (inward-from Up true x hd refl refl)
-too-large TowardZero neg x hd = at-least TowardZero neg x hd 65536 (inward-from TowardZero neg x hd refl refl)

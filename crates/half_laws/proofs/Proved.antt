@@ -1,16 +1,19 @@
 -- Each law of specs/Laws.antt and its proof, in the order of that file.
 use Prim.Native.Nat.{ℕ, _+_, _*_, _^_, _<_, Ordering, Ordering·lt, Ordering·eq, Ordering·gt}
-use mathlib.Core.Bool.{Bool, true, false, not}
+use mathlib.Core.Bool.{Bool, true, false, not, _&&_, _||_, cond}
+use mathlib.Core.List.{[], _∷_}
 use mathlib.Core.Logic.{_≢_, _↔_}
 use mathlib.Core.Path.{_≡_, refl, sym, ap, _∙_}
 use native.Mathlib.Omega.{arith}
 use native.Mathlib.Nat.{lt-of-le-of-lt, le-of-eq}
-use lib.Dec.{isEq}
+use lib.Bits.{bitOr}
+use lib.Dec.{isEq, eqb}
 use borrow.Author.Tests.{lt-leb, le-leb, leb-true}
+use Rattle.lists.specs.Lists.{some}
 use Rattle.half.specs.Format.{isFinite, negative, withSign, units}
 use Rattle.half.specs.Exact.{Magnitude, denominator, against, whole, isNearest}
 use Rattle.half.specs.Round as round
-use Rattle.half.specs.Round.{overflows, encode}
+use Rattle.half.specs.Round.{OE, UE, PE, flag, overflows, tiny, encode}
 use Rattle.half.specs.declared.Mode.{Mode}
 use Rattle.half.specs.declared.Mode.the-variants.{Nearest, Down, Up, TowardZero}
 use Rattle.half.specs.declared.Outcome.{Outcome}
@@ -18,7 +21,10 @@ use Rattle.half.proofs.Cuts.{whole-spec}
 use Rattle.half.proofs.Bridge.{right-zero}
 use Rattle.half.proofs.Units.{finite-lt}
 use Rattle.half_laws.specs.Values.{AtLeast, Equals, HalfNotAbove, HalfNotBelow}
-use Rattle.half_laws.specs.Laws.{halfOf, afterOverflow, NearestTo, WholeUnitsLaw, DeliveredHalfLaw, NearestLaw, DownLaw, UpLaw, TowardZeroLaw, InexactLaw, OverflowFlagLaw, OverflowLaw, OverflowGridLaw, TooLargeLaw, UnderflowFlagLaw, TooSmallLaw, FinerLaw, ElevenBitsLaw, ExactLaw, OrderLaw, HalfOrderLaw}
+use Rattle.half_laws.specs.Laws.{halfOf, afterOverflow, NearestTo}
+use Rattle.half_laws.specs.Laws.{WholeUnitsLaw, DeliveredHalfLaw, NearestLaw, DownLaw, UpLaw, TowardZeroLaw, InexactLaw}
+use Rattle.half_laws.specs.Laws.{OverflowFlagLaw, OverflowLaw, OverflowGridLaw, TooLargeLaw, UnderflowFlagLaw, TooSmallLaw, FlagsLaw}
+use Rattle.half_laws.specs.Laws.{FinerLaw, ElevenBitsLaw, ExactLaw, OrderLaw, HalfOrderLaw}
 use Rattle.half_laws.proofs.Sides.{least-ge, ge-least, le-most, lt-below, equals-eq, above-gt}
 use Rattle.half_laws.proofs.Grid as grid
 use Rattle.half_laws.proofs.Grid.{half-on-grid, none-nearer, tie-even}
@@ -26,8 +32,8 @@ use Rattle.half_laws.proofs.Fields.{encode-units, signed-even, signed-b
 use Rattle.half_laws.proofs.Delivered as given
 use Rattle.half_laws.proofs.Order as ordered
 use Rattle.half_laws.proofs.Exactness as exactness
-use Rattle.half_laws.proofs.Overflow as limits
-use Rattle.half_laws.proofs.Underflow as limits-below
+use Rattle.half_laws.proofs.Overflow as over
+use Rattle.half_laws.proofs.Underflow as under
 use Rattle.half_laws.proofs.Directed as directed
 
 -- ---- 0
@@ -52,15 +58,19 @@ module _ (mode : Mode) (unmaskedUE neg : Bool) (x : Magnitude) (hd : 0 < denomin
 
 -- ---- 2
 
-nearest-in : (mode : Mode) → isNearest mode ≡ true → (unmaskedUE neg : Bool) (x : Magnitude) → 0 < denominator x → overflows mode neg x ≡ false → NearestTo x (halfOf mode unmaskedUE neg x)
+nearest-in : (mode : Mode) → isNearest mode ≡ true → (unmaskedUE neg : Bool) (x : Magnitude) → 0 < denominator x
+    → overflows mode neg x ≡ false → NearestTo x (halfOf mode unmaskedUE neg x)
 nearest-in mode i unmaskedUE neg x hd fits =
     let D : ℕ = round.delivered mode neg x in
     let n : units (halfOf mode unmaskedUE neg x) ≡ D = number mode unmaskedUE neg x hd fits in
     record {
-      below = λ (h : ℕ) (f : isFinite h ≡ true). rw n (λ (l : D < units h). le-most x (D + units h) (2 ^ 25) (none-nearer 24 x hd mode neg i (units h) (half-on-grid h) .0 l));
-      above = λ (h : ℕ) (f : isFinite h ≡ true). rw n (λ (l : units h < D). ge-least x (D + units h) (2 ^ 25) (none-nearer 24 x hd mode neg i (units h) (half-on-grid h) .1 l));
+      below = λ (h : ℕ) (f : isFinite h ≡ true).
+          rw n (λ (l : D < units h). le-most x (D + units h) (2 ^ 25) (none-nearer 24 x hd mode neg i (units h) (half-on-grid h) .0 l));
+      above = λ (h : ℕ) (f : isFinite h ≡ true).
+          rw n (λ (l : units h < D). ge-least x (D + units h) (2 ^ 25) (none-nearer 24 x hd mode neg i (units h) (half-on-grid h) .1 l));
       even = λ (h : ℕ) (f : isFinite h ≡ true). rw n (λ (d : units h ≢ D) (e : Equals x (D + units h) (2 ^ 25)).
-          rw (given.half-is mode neg x hd fits unmaskedUE) (signed-even neg (encode D) (tie-even 24 x hd mode neg i (units h) (half-on-grid h) d (equals-eq x (D + units h) (2 ^ 25) e))));
+          rw (given.half-is mode neg x hd fits unmaskedUE)
+          (signed-even neg (encode D) (tie-even 24 x hd mode neg i (units h) (half-on-grid h) d (equals-eq x (D + units h) (2 ^ 25) e))));
     }
 
 pub nearest : NearestLaw
@@ -73,7 +83,10 @@ down unmaskedUE neg x hd fits =
     let g = directed.greatest Down neg neg x hd refl refl in
     let s = sign Down unmaskedUE neg x hd fits in
     let n = number Down unmaskedUE neg x hd fits in
-    record { fits = rw (s, n) (g .0); best = λ (h : ℕ) (f : isFinite h ≡ true) (l : HalfNotAbove h neg x). rw (s, n) (g .1 (negative h) (units h) (half-on-grid h) l) }
+    record {
+      fits = rw (s, n) (g .0);
+      best = λ (h : ℕ) (f : isFinite h ≡ true) (l : HalfNotAbove h neg x). rw (s, n) (g .1 (negative h) (units h) (half-on-grid h) l);
+    }
 
 pub up : UpLaw
 up unmaskedUE neg x hd fits =
@@ -83,7 +96,8 @@ up unmaskedUE neg x hd fits =
     record {
       fits = rw (s, n) (g .0);
       best = λ (h : ℕ) (f : isFinite h ≡ true) (l : HalfNotBelow h neg x).
-          rw (s, n) (directed.turned (negative h) neg (units h) (round.delivered Up neg x) (g .1 (not (negative h)) (units h) (half-on-grid h) l));
+          rw (s, n)
+          (directed.turned (negative h) neg (units h) (round.delivered Up neg x) (g .1 (not (negative h)) (units h) (half-on-grid h) l));
     }
 
 pub toward-zero : TowardZeroLaw
@@ -92,7 +106,8 @@ toward-zero unmaskedUE neg x hd fits =
     let n : units (halfOf TowardZero unmaskedUE neg x) ≡ round.delivered TowardZero neg x = number TowardZero unmaskedUE neg x hd fits in
     record {
       fits = rw n (ge-least x (round.delivered TowardZero neg x) (2 ^ 24) (t .0));
-      best = λ (h : ℕ) (f : isFinite h ≡ true) (l : AtLeast x (units h) (2 ^ 24)). rw n (t .1 (units h) (half-on-grid h) (least-ge x (units h) (2 ^ 24) l));
+      best = λ (h : ℕ) (f : isFinite h ≡ true) (l : AtLeast x (units h) (2 ^ 24)).
+          rw n (t .1 (units h) (half-on-grid h) (least-ge x (units h) (2 ^ 24) l));
     }
 
 -- ---- 4
@@ -110,7 +125,8 @@ differs o = (λ (e : not (isEq o) ≡ true) (q : o ≡ Ordering·eq). clash (rw 
 
 pub inexact : InexactLaw
 inexact mode unmaskedUE neg x hd fits =
-    rw (given.inexact-flag mode neg x hd fits unmaskedUE, number mode unmaskedUE neg x hd fits) (differs (against x (round.delivered mode neg x) (2 ^ 24)))
+    rw (given.inexact-flag mode neg x hd fits unmaskedUE, number mode unmaskedUE neg x hd fits)
+    (differs (against x (round.delivered mode neg x) (2 ^ 24)))
 
 -- ---- 5
 
@@ -120,24 +136,32 @@ overflow-flag mode unmaskedUE neg x = rw (given.overflow-flag mode unmaskedUE ne
   le-leb (65536 * 2 ^ round.fine x) (round.unlimited mode neg x),
 )
 
-after : (mode : Mode) (neg : Bool) → withSign neg (round.overflowFields mode neg) ≡ afterOverflow mode neg
-after Nearest false = refl
-after Nearest true = refl
-after Down false = refl
-after Down true = refl
-after Up false = refl
-after Up true = refl
-after TowardZero false = refl
-after TowardZero true = refl
-
 pub overflow : OverflowLaw
-overflow mode unmaskedUE neg x e = (given.over-half mode unmaskedUE neg x e ∙ after mode neg, ap (λ (o : Outcome). o .flags) (given.over-is mode unmaskedUE neg x e))
+overflow mode unmaskedUE neg x e = (
+  given.over-half mode unmaskedUE neg x e ∙ after mode neg,
+  ap (λ (o : Outcome). o .flags) (given.over-is mode unmaskedUE neg x e),
+)
+  where
+    after : (mode : Mode) (neg : Bool) → withSign neg (round.overflowFields mode neg) ≡ afterOverflow mode neg
+    after Nearest false = refl
+    after Nearest true = refl
+    after Down false = refl
+    after Down true = refl
+    after Up false = refl
+    after Up true = refl
+    after TowardZero false = refl
+    after TowardZero true = refl
 
 pub overflow-grid : OverflowGridLaw
 overflow-grid = given.overflows-is
 
 pub too-large : TooLargeLaw
-too-large = limits.too-large
+too-large Nearest neg x hd = over.at-least Nearest neg x hd 65520 (over.nearest-from Nearest neg x hd refl)
+too-large Down false x hd = over.at-least Down false x hd 65536 (over.inward-from Down false x hd refl refl)
+too-large Down true x hd = over.above Down true x hd 65504 (over.outward-from Down true x hd refl refl)
+too-large Up false x hd = over.above Up false x hd 65504 (over.outward-from Up false x hd refl refl)
+too-large Up true x hd = over.at-least Up true x hd 65536 (over.inward-from Up true x hd refl refl)
+too-large TowardZero neg x hd = over.at-least TowardZero neg x hd 65536 (over.inward-from TowardZero neg x hd refl refl)
 
 -- ---- 6
 
@@ -145,9 +169,29 @@ pub underflow-flag : UnderflowFlagLaw
 underflow-flag = given.underflow-flag
 
 pub too-small : TooSmallLaw
-too-small = limits-below.too-small
+too-small Nearest neg x hd = under.small x hd Nearest neg 2 refl (under.below x hd 4095 4095 (2 ^ 26) 1 refl refl (omega arith))
+too-small Down false x hd = under.small x hd Down false 0 refl (under.below x hd 4096 1 (2 ^ 14) (2 ^ 12) refl refl (omega arith))
+too-small Down true x hd = under.small x hd Down true 3 refl (under.at-most x hd 4094 2047 (2 ^ 25) 2 refl refl (omega arith))
+too-small Up false x hd = under.small x hd Up false 3 refl (under.at-most x hd 4094 2047 (2 ^ 25) 2 refl refl (omega arith))
+too-small Up true x hd = under.small x hd Up true 0 refl (under.below x hd 4096 1 (2 ^ 14) (2 ^ 12) refl refl (omega arith))
+too-small TowardZero neg x hd = under.small x hd TowardZero neg 0 refl (under.below x hd 4096 1 (2 ^ 14) (2 ^ 12) refl refl (omega arith))
 
 -- ---- 7
+
+pub flags : FlagsLaw
+flags mode unmaskedUE neg x =
+    rw (given.flags-are mode unmaskedUE neg x)
+    (go (overflows mode neg x) (round.inexact mode neg x) (tiny mode neg x && (unmaskedUE || round.inexact mode neg x)))
+  where
+    go : (o i u : Bool)
+        → some (eqb (cond o (bitOr OE PE) (bitOr (flag PE i) (flag UE u)))) (0 ∷ UE ∷ PE ∷ bitOr UE PE ∷ bitOr OE PE ∷ []) ≡ true
+    go true i u = refl
+    go false true true = refl
+    go false true false = refl
+    go false false true = refl
+    go false false false = refl
+
+-- ---- 8
 
 pub finer : FinerLaw
 finer = exactness.finer
@@ -155,7 +199,7 @@ finer = exactness.finer
 pub eleven-bits : ElevenBitsLaw
 eleven-bits mode neg x hd a = exactness.eleven mode neg x hd (lt-of-le-of-lt (le-of-eq (sym (right-zero x))) (above-gt x 0 1 a))
 
--- ---- 8
+-- ---- 9
 
 pub exact : ExactLaw
 exact mode unmaskedUE x hd h small finite e =
@@ -167,7 +211,7 @@ exact mode unmaskedUE x hd h small finite e =
       given.inexact-flag mode s x hd f unmaskedUE ∙ ap (λ (o : Ordering). not (isEq o)) i,
     )
 
--- ---- 9
+-- ---- 10
 
 pub order : OrderLaw
 order mode neg x y hx hy l = ordered.order-kept x y hx hy (ordered.leq-ordered x y hx hy l) mode neg

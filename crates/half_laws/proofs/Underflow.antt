@@ -10,14 +10,12 @@ use lib.Dec.{eqb, ltb}
 use Rattle.half.specs.Exact.{Magnitude, ratio, denominator, against, whole, isNearest, outward}
 use Rattle.half.specs.Round.{tiny}
 use Rattle.half.specs.declared.Mode.{Mode}
-use Rattle.half.specs.declared.Mode.the-variants.{Nearest, Down, Up, TowardZero}
 use Rattle.half.proofs.Compare.{cmp, Cmp, cmp-lt, cmp-eq, cmp-gt}
 use Rattle.half.proofs.Cuts.{left, right, against-is, against-scale, right-mono, right-strict, whole-spec}
 use Rattle.half.proofs.Bridge.{Placed, tiny-is}
 use Rattle.half.proofs.Sticky.{own-place}
 use Rattle.half.proofs.Steps.{tiny-below}
 use Rattle.half_laws.specs.Values.{AtMost, Above, Below}
-use Rattle.half_laws.specs.Laws.{TooSmall}
 
 -- 1 where something is left
 abbrev left-over : Ordering → ℕ
@@ -53,7 +51,8 @@ module _ (x : Magnitude) (hd : 0 < denominator x) where
 
       go : (o : Ordering) → Cmp o c w → against x c (2 ^ 26) ≡ compare t (2 * c)
       go Ordering·lt h =
-          against-is x c (2 ^ 26) ∙ cmp-gt _ _ (lt-of-lt-of-le (right-strict x hd {a = c} {c = w} h) holds) ∙ sym (cmp-gt t (2 * c) (omega arith))
+          against-is x c (2 ^ 26) ∙ cmp-gt _ _ (lt-of-lt-of-le (right-strict x hd {a = c} {c = w} h) holds)
+          ∙ sym (cmp-gt t (2 * c) (omega arith))
       go Ordering·eq h =
           rw h (at (against x w (2 ^ 26)) refl (rw (against-is x w (2 ^ 26)) (cmp (left x (2 ^ 26)) (right x w))))
       go Ordering·gt h =
@@ -65,11 +64,14 @@ module _ (x : Magnitude) (hd : 0 < denominator x) where
     same : against x a b ≡ compare t (2 * c)
     same = sym (against-scale x a b m hm) ∙ rw (ea, eb) (placed c)
 
-    below : Below x a b ↔ (t < 2 * c)
+    pub below : Below x a b ↔ (t < 2 * c)
     below = ((λ l. let h : t < 2 * c = rw (sym same ∙ l) at (cmp t (2 * c)) in h), (λ h. same ∙ cmp-lt t (2 * c) h))
 
-    at-most : AtMost x a b ↔ (t < 2 * c + 1)
-    at-most = ((λ l. go (compare t (2 * c)) (cmp t (2 * c)) (rw same at l)), (λ h e. let g : 2 * c < t = rw (sym same ∙ e) at (cmp t (2 * c)) in omega arith))
+    pub at-most : AtMost x a b ↔ (t < 2 * c + 1)
+    at-most = (
+      (λ l. go (compare t (2 * c)) (cmp t (2 * c)) (rw same at l)),
+      (λ h e. let g : 2 * c < t = rw (sym same ∙ e) at (cmp t (2 * c)) in omega arith),
+    )
       where
         go : (o : Ordering) → Cmp o t (2 * c) → o ≢ Ordering·gt → t < 2 * c + 1
         go Ordering·lt h n = omega arith
@@ -89,7 +91,7 @@ module _ (x : Magnitude) (hd : 0 < denominator x) where
         tiny-is x t hd placed mode neg ∙ sym (tiny-is (ratio t (2 ^ 27)) t (omega arith) (own-place t) mode neg)
         ∙ sym (tiny-below mode neg t refl refl hc)
 
-    small : {P : Type 0} → P ↔ (t < 8192 - c) → (tiny mode neg x ≡ true) ↔ (Above x 0 1 × P)
+    pub small : {P : Type 0} → P ↔ (t < 8192 - c) → (tiny mode neg x ≡ true) ↔ (Above x 0 1 × P)
     small {P} f = (
       (λ e. go (eqb t 0) (ltb t (8192 - c)) refl refl (sym same-tiny ∙ e)),
       (λ p. same-tiny ∙ rw (ne-eqb t 0 (above .0 (p .0)), lt-ltb t (8192 - c) (f .0 (p .1)))),
@@ -99,11 +101,3 @@ module _ (x : Magnitude) (hd : 0 < denominator x) where
         go true l e g h = absurd (false≢true h)
         go false true e g h = (above .1 (eqb-false t 0 e), f .1 (ltb-true t (8192 - c) g))
         go false false e g h = absurd (false≢true h)
-
-pub too-small : (mode : Mode) (neg : Bool) (x : Magnitude) → 0 < denominator x → (tiny mode neg x ≡ true) ↔ (Above x 0 1 × TooSmall mode neg x)
-too-small Nearest neg x hd = small x hd Nearest neg 2 refl (below x hd 4095 4095 (2 ^ 26) 1 refl refl (omega arith))
-too-small Down false x hd = small x hd Down false 0 refl (below x hd 4096 1 (2 ^ 14) (2 ^ 12) refl refl (omega arith))
-too-small Down true x hd = small x hd Down true 3 refl (at-most x hd 4094 2047 (2 ^ 25) 2 refl refl (omega arith))
-too-small Up false x hd = small x hd Up false 3 refl (at-most x hd 4094 2047 (2 ^ 25) 2 refl refl (omega arith))
-too-small Up true x hd = small x hd Up true 0 refl (below x hd 4096 1 (2 ^ 14) (2 ^ 12) refl refl (omega arith))
-too-small TowardZero neg x hd = small x hd TowardZero neg 0 refl (below x hd 4096 1 (2 ^ 14) (2 ^ 12) refl refl (omega arith))

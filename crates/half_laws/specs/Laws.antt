@@ -3,10 +3,12 @@
 -- `neg` its sign; `unmaskedUE` says whether underflow is unmasked.
 use Prim.Native.Nat.{ℕ, _+_, _*_, _/_, _%_, _^_, _≤_, _<_}
 use mathlib.Core.Bool.{Bool, true, false, _&&_, _||_}
+use mathlib.Core.List.{[], _∷_}
 use mathlib.Core.Logic.{_≢_, _↔_}
 use mathlib.Core.Path.{_≡_}
 use lib.Bits.{bitOr}
 use lib.Dec.{leb, eqb}
+use Rattle.lists.specs.Lists.{some}
 use Rattle.half.specs.Format.{isFinite, negative, units}
 use Rattle.half.specs.Exact.{Magnitude, denominator, whole, roundTo}
 use Rattle.half.specs.Round.{OE, UE, PE, significant, fine, unlimited, delivered, overflows, tiny, roundedHalf}
@@ -24,7 +26,8 @@ raises flag mode unmaskedUE neg x = eqb ((roundedHalf mode unmaskedUE neg x) .fl
 
 -- ---- 0. Whole units: `whole x a b` is the q with q units a / b ≤ x < q + 1 units, of a root too
 abbrev pub WholeUnitsLaw : Type 0
-WholeUnitsLaw = (x : Magnitude) → 0 < denominator x → (a b : ℕ) → 0 < a → AtLeast x (whole x a b * a) b × Below x ((whole x a b + 1) * a) b
+WholeUnitsLaw = (x : Magnitude) → 0 < denominator x → (a b : ℕ) → 0 < a
+    → AtLeast x (whole x a b * a) b × Below x ((whole x a b + 1) * a) b
 
 -- ---- 1. What is delivered without overflow
 
@@ -51,7 +54,8 @@ pub record NearestTo (x : Magnitude) (r : ℕ) : Type 0 where
   pub even : (h : ℕ) → isFinite h ≡ true → units h ≢ units r → Equals x (units r + units h) (2 ^ 25) → r % 2 ≡ 0
 
 abbrev pub NearestLaw : Type 0
-NearestLaw = (unmaskedUE neg : Bool) (x : Magnitude) → 0 < denominator x → overflows Nearest neg x ≡ false → NearestTo x (halfOf Nearest unmaskedUE neg x)
+NearestLaw = (unmaskedUE neg : Bool) (x : Magnitude) → 0 < denominator x → overflows Nearest neg x ≡ false
+    → NearestTo x (halfOf Nearest unmaskedUE neg x)
 
 -- ---- 3. The directed roundings (IEEE 754, 4.3.2)
 
@@ -72,15 +76,18 @@ pub record GreatestMagnitude (x : Magnitude) (r : ℕ) : Type 0 where
 
 -- roundTowardNegative
 abbrev pub DownLaw : Type 0
-DownLaw = (unmaskedUE neg : Bool) (x : Magnitude) → 0 < denominator x → overflows Down neg x ≡ false → Greatest neg x (halfOf Down unmaskedUE neg x)
+DownLaw = (unmaskedUE neg : Bool) (x : Magnitude) → 0 < denominator x → overflows Down neg x ≡ false
+    → Greatest neg x (halfOf Down unmaskedUE neg x)
 
 -- roundTowardPositive
 abbrev pub UpLaw : Type 0
-UpLaw = (unmaskedUE neg : Bool) (x : Magnitude) → 0 < denominator x → overflows Up neg x ≡ false → Least neg x (halfOf Up unmaskedUE neg x)
+UpLaw = (unmaskedUE neg : Bool) (x : Magnitude) → 0 < denominator x → overflows Up neg x ≡ false
+    → Least neg x (halfOf Up unmaskedUE neg x)
 
 -- roundTowardZero
 abbrev pub TowardZeroLaw : Type 0
-TowardZeroLaw = (unmaskedUE neg : Bool) (x : Magnitude) → 0 < denominator x → overflows TowardZero neg x ≡ false → GreatestMagnitude x (halfOf TowardZero unmaskedUE neg x)
+TowardZeroLaw = (unmaskedUE neg : Bool) (x : Magnitude) → 0 < denominator x → overflows TowardZero neg x ≡ false
+    → GreatestMagnitude x (halfOf TowardZero unmaskedUE neg x)
 
 -- ---- 4. Inexact (IEEE 754, 7.6; 01: "PE if it differs from the exact value"), without overflow
 abbrev pub InexactLaw : Type 0
@@ -91,7 +98,8 @@ InexactLaw = (mode : Mode) (unmaskedUE neg : Bool) (x : Magnitude) → 0 < denom
 
 -- OE exactly if the value rounded to 11 bits with no exponent limit, a number of units 2 ^ -(fine x), reaches 65,536
 abbrev pub OverflowFlagLaw : Type 0
-OverflowFlagLaw = (mode : Mode) (unmaskedUE neg : Bool) (x : Magnitude) → (raises OE mode unmaskedUE neg x ≡ true) ↔ (65536 * 2 ^ fine x ≤ unlimited mode neg x)
+OverflowFlagLaw = (mode : Mode) (unmaskedUE neg : Bool) (x : Magnitude)
+    → (raises OE mode unmaskedUE neg x ≡ true) ↔ (65536 * 2 ^ fine x ≤ unlimited mode neg x)
 
 -- what is delivered then: the infinity, or the largest finite half where the mode leads toward zero
 abbrev pub afterOverflow : Mode → Bool → ℕ
@@ -110,7 +118,8 @@ OverflowLaw = (mode : Mode) (unmaskedUE neg : Bool) (x : Magnitude) → overflow
 
 -- The value on the half grid tells the same: 65,536 is 2 ^ 40 units of 2 ^ -24.
 abbrev pub OverflowGridLaw : Type 0
-OverflowGridLaw = (mode : Mode) (neg : Bool) (x : Magnitude) → 0 < denominator x → overflows mode neg x ≡ leb (2 ^ 40) (delivered mode neg x)
+OverflowGridLaw = (mode : Mode) (neg : Bool) (x : Magnitude) → 0 < denominator x
+    → overflows mode neg x ≡ leb (2 ^ 40) (delivered mode neg x)
 
 -- Which exact values overflow. 65,504 is the largest half and 65,520 the middle between it and 65,536: to nearest from the middle on
 -- (IEEE 754, 4.3.1), where the mode leads away from zero above 65,504, where it leads toward zero from 65,536 on.
@@ -123,7 +132,8 @@ TooLarge Up true x = AtLeast x 65536 1
 TooLarge TowardZero neg x = AtLeast x 65536 1
 
 abbrev pub TooLargeLaw : Type 0
-TooLargeLaw = (mode : Mode) (neg : Bool) (x : Magnitude) → 0 < denominator x → (overflows mode neg x ≡ true) ↔ TooLarge mode neg x
+TooLargeLaw = (mode : Mode) (neg : Bool) (x : Magnitude) → 0 < denominator x
+    → (overflows mode neg x ≡ true) ↔ TooLarge mode neg x
 
 -- ---- 6. Underflow (IEEE 754, 7.5, detected after rounding; 01: "UE if tiny and either UE is unmasked or PE holds"), without overflow
 abbrev pub UnderflowFlagLaw : Type 0
@@ -142,13 +152,20 @@ TooSmall Up true x = Below x 1 (2 ^ 14)
 TooSmall TowardZero neg x = Below x 1 (2 ^ 14)
 
 abbrev pub TooSmallLaw : Type 0
-TooSmallLaw = (mode : Mode) (neg : Bool) (x : Magnitude) → 0 < denominator x → (tiny mode neg x ≡ true) ↔ (Above x 0 1 × TooSmall mode neg x)
+TooSmallLaw = (mode : Mode) (neg : Bool) (x : Magnitude) → 0 < denominator x
+    → (tiny mode neg x ≡ true) ↔ (Above x 0 1 × TooSmall mode neg x)
 
--- ---- 7. "Round to 11 significant bits with no exponent limit"
+-- ---- 7. No other flags: none at all, UE, PE, both of these, or OE with PE
+abbrev pub FlagsLaw : Type 0
+FlagsLaw = (mode : Mode) (unmaskedUE neg : Bool) (x : Magnitude)
+    → some (eqb ((roundedHalf mode unmaskedUE neg x) .flags)) (0 ∷ UE ∷ PE ∷ bitOr UE PE ∷ bitOr OE PE ∷ []) ≡ true
+
+-- ---- 8. "Round to 11 significant bits with no exponent limit"
 
 -- The unit 2 ^ -(fine x) sets no limit: a finer one gives the same number.
 abbrev pub FinerLaw : Type 0
-FinerLaw = (mode : Mode) (neg : Bool) (x : Magnitude) → 0 < denominator x → (j : ℕ) → significant (fine x + j) mode neg x ≡ unlimited mode neg x * 2 ^ j
+FinerLaw = (mode : Mode) (neg : Bool) (x : Magnitude) → 0 < denominator x → (j : ℕ)
+    → significant (fine x + j) mode neg x ≡ unlimited mode neg x * 2 ^ j
 
 -- There are 11 significant bits: an x above 0 is rounded to units of which it holds 1,024 to 2,047.
 pub record ElevenBits (mode : Mode) (neg : Bool) (x : Magnitude) : Type 0 where
@@ -160,14 +177,16 @@ pub record ElevenBits (mode : Mode) (neg : Bool) (x : Magnitude) : Type 0 where
 abbrev pub ElevenBitsLaw : Type 0
 ElevenBitsLaw = (mode : Mode) (neg : Bool) (x : Magnitude) → 0 < denominator x → Above x 0 1 → ElevenBits mode neg x
 
--- ---- 8. An exact value that is a finite half's is delivered as that half, in every mode, without PE
+-- ---- 9. An exact value that is a finite half's is delivered as that half, in every mode, without PE
 abbrev pub ExactLaw : Type 0
-ExactLaw = (mode : Mode) (unmaskedUE : Bool) (x : Magnitude) → 0 < denominator x → (h : ℕ) → h < 2 ^ 16 → isFinite h ≡ true → Equals x (units h) (2 ^ 24)
+ExactLaw = (mode : Mode) (unmaskedUE : Bool) (x : Magnitude) → 0 < denominator x → (h : ℕ) → h < 2 ^ 16 → isFinite h ≡ true
+    → Equals x (units h) (2 ^ 24)
     → (halfOf mode unmaskedUE (negative h) x ≡ h) × (raises PE mode unmaskedUE (negative h) x ≡ false)
 
--- ---- 9. Rounding keeps order: in one mode and sign, a larger magnitude is rounded to no smaller one
+-- ---- 10. Rounding keeps order: in one mode and sign, a larger magnitude is rounded to no smaller one
 abbrev pub OrderLaw : Type 0
-OrderLaw = (mode : Mode) (neg : Bool) (x y : Magnitude) → 0 < denominator x → 0 < denominator y → Leq x y → delivered mode neg x ≤ delivered mode neg y
+OrderLaw = (mode : Mode) (neg : Bool) (x y : Magnitude) → 0 < denominator x → 0 < denominator y → Leq x y
+    → delivered mode neg x ≤ delivered mode neg y
 
 -- The halves too, with overflow or without: halves of one sign, read as numbers of 16 bits, are in the order of their magnitudes, the
 -- infinity last.

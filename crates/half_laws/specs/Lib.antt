@@ -1,3 +1,4 @@
--- What a reader opens: Values, then Laws. proofs/Proved.antt has the proof of each law.
+-- What a reader opens: Values, Laws, then Operations. proofs/Proved.antt and proofs/Operated.antt have the proof of each law.
 pub mod Values
 pub mod Laws
+pub mod Operations

@@ -1,0 +1,94 @@
+-- 01, Rounding and flags, 4, for finite operands: each operation rounds its exact result, a signed number, once. Laws.antt says what
+-- that rounding gives; proofs/Operated.antt has a proof of each law under the law's name.
+use Prim.Native.Nat.{ℕ, zero, suc, _^_, _<_}
+use mathlib.Core.Bool.{Bool, true, false, not, cond, Bool·beq}
+use mathlib.Core.List.{List, [], _∷_}
+use mathlib.Core.Path.{_≡_}
+use lib.IntN.{ℤ, pos, negsuc, negℤ, natAbs, _+ℤ_, _-ℤ_, _*ℤ_}
+use Rattle.half.specs.Format.{isFinite, isZero, negative, units}
+use Rattle.half.specs.Exact.{Magnitude, ratio, rootOf, denominator}
+use Rattle.half.specs.Round.{roundedHalf}
+use Rattle.half.specs.Operations.{withDenormals, unlike, halfAdd, halfSubtract, halfMultiply, halfDivide, halfRoot, halfMultiplyAdd}
+use Rattle.half.specs.declared.Mode.{Mode}
+use Rattle.half.specs.declared.Mode.the-variants.{Nearest, Down, Up, TowardZero}
+use Rattle.half.specs.declared.Outcome.{Outcome}
+
+-- ---- signed numbers: pos n is n, negsuc n is -(n + 1)
+
+-- n with this sign, true for minus
+abbrev pub signed : Bool → ℕ → ℤ
+signed false n = pos n
+signed true n = negℤ (pos n)
+
+-- "Every finite half times 2 to the 24 is a whole number": that number
+abbrev pub value : ℕ → ℤ
+value h = signed (negative h) (units h)
+
+-- the sign of v; a zero has the sign z
+abbrev pub signOf : ℤ → Bool → Bool
+signOf (pos zero) z = z
+signOf (pos (suc n)) z = false
+signOf (negsuc n) z = true
+
+-- ---- rounding
+
+-- o is ± x rounded: the half and the flags of that rounding, and DE beside them where an operand is subnormal. x has a denominator
+-- above 0, as Laws.antt asks.
+pub record Rounds (mode : Mode) (unmaskedUE : Bool) (operands : List ℕ) (neg : Bool) (x : Magnitude) (o : Outcome) : Type 0 where
+  pub above : 0 < denominator x
+  pub outcome : o ≡ withDenormals operands (roundedHalf mode unmaskedUE neg x)
+
+-- o is the number v / d rounded so; a zero has the sign z
+abbrev pub RoundsRatio : Mode → Bool → List ℕ → ℤ → ℕ → Bool → Outcome → Type 0
+RoundsRatio mode unmaskedUE operands v d z o = Rounds mode unmaskedUE operands (signOf v z) (ratio (natAbs v) d) o
+
+-- ---- the sign of a zero sum whose terms have the signs s and t
+
+-- "A zero sum of unlike signs is +0, or -0 in mode 1"
+abbrev pub cancelledSign : Mode → Bool
+cancelledSign Nearest = false
+cancelledSign Down = true
+cancelledSign Up = false
+cancelledSign TowardZero = false
+
+-- "like signs keep theirs"
+abbrev pub zeroSign : Mode → Bool → Bool → Bool
+zeroSign mode s t = cond (Bool·beq s t) s (cancelledSign mode)
+
+-- ---- the operations
+
+-- a + b
+abbrev pub AddLaw : Type 0
+AddLaw = (mode : Mode) (unmaskedUE : Bool) (a b : ℕ) → isFinite a ≡ true → isFinite b ≡ true
+    → RoundsRatio mode unmaskedUE (a ∷ b ∷ []) (value a +ℤ value b) (2 ^ 24) (zeroSign mode (negative a) (negative b))
+    (halfAdd mode unmaskedUE a b)
+
+-- a - b, where b has 16 bits; as a term of the sum b has the other sign
+abbrev pub SubtractLaw : Type 0
+SubtractLaw = (mode : Mode) (unmaskedUE : Bool) (a b : ℕ) → isFinite a ≡ true → isFinite b ≡ true → b < 2 ^ 16
+    → RoundsRatio mode unmaskedUE (a ∷ b ∷ []) (value a -ℤ value b) (2 ^ 24) (zeroSign mode (negative a) (not (negative b)))
+    (halfSubtract mode unmaskedUE a b)
+
+-- a * b. "The sign of a product or quotient, zero or not, is minus exactly when the operands' signs differ."
+abbrev pub MultiplyLaw : Type 0
+MultiplyLaw = (mode : Mode) (unmaskedUE : Bool) (a b : ℕ) → isFinite a ≡ true → isFinite b ≡ true
+    → RoundsRatio mode unmaskedUE (a ∷ b ∷ []) (value a *ℤ value b) (2 ^ 48) (unlike a b) (halfMultiply mode unmaskedUE a b)
+
+-- a / b for a b that is not zero. The exact quotient is ± units a / units b: times b it is a.
+abbrev pub QuotientLaw : Type 0
+QuotientLaw = (a b : ℕ) → signed (unlike a b) (units a) *ℤ value b ≡ value a *ℤ pos (units b)
+
+abbrev pub DivideLaw : Type 0
+DivideLaw = (mode : Mode) (unmaskedUE : Bool) (a b : ℕ) → isFinite a ≡ true → isFinite b ≡ true → isZero b ≡ false
+    → RoundsRatio mode unmaskedUE (a ∷ b ∷ []) (signed (unlike a b) (units a)) (units b) (unlike a b) (halfDivide mode unmaskedUE a b)
+
+-- the root of an a above zero
+abbrev pub RootLaw : Type 0
+RootLaw = (mode : Mode) (unmaskedUE : Bool) (a : ℕ) → isFinite a ≡ true → negative a ≡ false → isZero a ≡ false
+    → Rounds mode unmaskedUE (a ∷ []) false (rootOf (units a) (2 ^ 24)) (halfRoot mode unmaskedUE a)
+
+-- a * b + c, rounded once; "also where a fused form cancels exactly"
+abbrev pub MultiplyAddLaw : Type 0
+MultiplyAddLaw = (mode : Mode) (unmaskedUE : Bool) (a b c : ℕ) → isFinite a ≡ true → isFinite b ≡ true → isFinite c ≡ true
+    → RoundsRatio mode unmaskedUE (a ∷ b ∷ c ∷ []) (value a *ℤ value b +ℤ value c *ℤ pos (2 ^ 24)) (2 ^ 48)
+    (zeroSign mode (unlike a b) (negative c)) (halfMultiplyAdd mode unmaskedUE a b c)
