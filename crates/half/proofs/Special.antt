@@ -32,11 +32,11 @@ two-denormals a b e = rw (← again (isSubnormal b)) (sym e)
 pub exponent-negated : (h : ℕ) → exponentField (negated h) ≡ exponentField h
 exponent-negated h = ap (λ (n : ℕ). n % 32) (xor-shr h 0x8000 10) ∙ xor-mod (h / 1024) 32 5 ∙ xor-zero-r (h / 1024 % 32)
 
-pub ratio-negated : (h : ℕ) → fractionField (negated h) ≡ fractionField h
-ratio-negated h = xor-mod h 0x8000 10 ∙ xor-zero-r (h % 1024)
+pub fraction-negated : (h : ℕ) → fractionField (negated h) ≡ fractionField h
+fraction-negated h = xor-mod h 0x8000 10 ∙ xor-zero-r (h % 1024)
 
 nan-negated : (h : ℕ) → isNan (negated h) ≡ isNan h
-nan-negated h = rw (exponent-negated h, ratio-negated h)
+nan-negated h = rw (exponent-negated h, fraction-negated h)
 
 -- where one is not finite and none is a NaN, one is an infinity
 pub some-infinite : (a b c : ℕ) → (isFinite a && (isFinite b && isFinite c)) ≡ false → some isNan (a ∷ b ∷ c ∷ []) ≡ false

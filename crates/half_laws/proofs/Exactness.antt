@@ -34,8 +34,10 @@ module _ (mode : Mode) (neg : Bool) (x : Magnitude) (hd : 0 < denominator x) (m 
       go true o i f =
           let n = none-nearer 24 x hd mode neg i m g in
           le-antisymm
-          (le-of-suc-le-suc (lt-of-not-le (λ (h : suc m ≤ D). let l : D + m ≤ m * 2 = right-back x hd (D + m) (m * 2) (le-trans (n .1 h) (le-of-eq twice)) in absurd (omega arith))))
-          (le-of-suc-le-suc (lt-of-not-le (λ (h : suc D ≤ m). let l : m * 2 ≤ D + m = right-back x hd (m * 2) (D + m) (le-trans (le-of-eq (sym twice)) (n .0 h)) in absurd (omega arith))))
+          (le-of-suc-le-suc (lt-of-not-le (λ (h : suc m ≤ D). let l : D + m ≤ m * 2 = right-back x hd (D + m) (m * 2)
+          (le-trans (n .1 h) (le-of-eq twice)) in absurd (omega arith))))
+          (le-of-suc-le-suc (lt-of-not-le (λ (h : suc D ≤ m). let l : m * 2 ≤ D + m = right-back x hd (m * 2) (D + m)
+          (le-trans (le-of-eq (sym twice)) (n .0 h)) in absurd (omega arith))))
       go false true i f =
           let t = away-from-zero 24 x hd mode neg i f in
           le-antisymm (t .1 m g (le-of-eq e)) (right-back x hd m D (le-trans (le-of-eq (sym e)) (t .0)))
@@ -46,7 +48,8 @@ module _ (mode : Mode) (neg : Bool) (x : Magnitude) (hd : 0 < denominator x) (m 
 -- ---- an x above 0 is at least 1 / d, so 2 ^ 24 or more of the fine units
 
 at-least-one : (x : Magnitude) → 0 < left x 1 → right x 1 ≤ left x (2 ^ size (denominator x))
-at-least-one (ratio n d) h = let c : 1 * 2 ^ size d ≤ n * 2 ^ size d = mul-le-mul-right {m = 1} {n = n} (2 ^ size d) (omega arith) in omega (arith, size-lt d)
+at-least-one (ratio n d) h =
+    let c : 1 * 2 ^ size d ≤ n * 2 ^ size d = mul-le-mul-right {m = 1} {n = n} (2 ^ size d) (omega arith) in omega (arith, size-lt d)
 at-least-one (rootOf n d) h =
     let P : ℕ = 2 ^ size d in
     let e : 1 * P ≤ P * P = mul-le-mul-right {m = 1} {n = P} P (pow-pos (size d)) in

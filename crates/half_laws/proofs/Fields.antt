@@ -39,16 +39,20 @@ units-fields k q hi lo fits = go (ltb q 1024) (ltb q 2048) refl refl
     go false false e f =
         let l : 2048 ≤ q = ltb-false _ _ f in
         let s : q ≡ 2048 = omega arith in
-        units-large (k * 1024 + q) (suc k) (omega arith) ∙ ap (λ (y : ℕ). y * 2 ^ suc k) (let y : 1024 + (k * 1024 + q) % 1024 ≡ 1024 = omega arith in y) ∙ rw s (omega arith)
+        units-large (k * 1024 + q) (suc k) (omega arith) ∙ ap (λ (y : ℕ). y * 2 ^ suc k)
+        (let y : 1024 + (k * 1024 + q) % 1024 ≡ 1024 = omega arith in y) ∙ rw s (omega arith)
 
 -- the fields of a half's number are the half's
 pub encode-units : (h : ℕ) → encode (units h) ≡ h % 32768
 encode-units h = go (exponentField h) refl
   where
     go : (e : ℕ) → exponentField h ≡ e → encode (units h) ≡ h % 32768
-    go zero e = ap encode (units-small h e) ∙ encode-is 0 (fractionField h) (omega arith) (λ (z : fractionField h < 1024). refl) ∙ (let y : 0 * 1024 + h % 1024 ≡ h % 32768 = omega arith in y)
+    go zero e =
+        ap encode (units-small h e) ∙ encode-is 0 (fractionField h) (omega arith) (λ (z : fractionField h < 1024). refl)
+        ∙ (let y : 0 * 1024 + h % 1024 ≡ h % 32768 = omega arith in y)
     go (suc e) p =
-        ap encode (units-large h e p) ∙ encode-is e (1024 + fractionField h) (omega arith) (λ (z : 1024 + fractionField h < 1024). omega arith) ∙ (let y : e * 1024 + (1024 + h % 1024) ≡ h % 32768 = omega arith in y)
+        ap encode (units-large h e p) ∙ encode-is e (1024 + fractionField h) (omega arith)
+        (λ (z : 1024 + fractionField h < 1024). omega arith) ∙ (let y : e * 1024 + (1024 + h % 1024) ≡ h % 32768 = omega arith in y)
 
 -- ---- a larger number has larger fields
 pub encode-mono : (m n : ℕ) → m ≤ n → encode m ≤ encode n
@@ -59,12 +63,18 @@ encode-mono m n h = go (ltb (size m - 11) (size n - 11)) refl
     sizes = size-le m (size n) (lt-of-le-of-lt h (size-lt n))
 
     top : m / 2 ^ (size m - 11) < 2048
-    top = div-lt-iff-lt-mul (pow-pos (size m - 11)) .1 (lt-of-lt-of-le (size-lt m) (le-trans (pow-mono {i = size m} {j = 11 + (size m - 11)} (omega arith)) (le-of-eq (pow-add 2 11 (size m - 11)))))
+    top =
+        div-lt-iff-lt-mul (pow-pos (size m - 11)) .1
+        (lt-of-lt-of-le (size-lt m) (le-trans (pow-mono {i = size m} {j = 11 + (size m - 11)} (omega arith))
+        (le-of-eq (pow-add 2 11 (size m - 11)))))
 
-    go : (b : Bool) → ltb (size m - 11) (size n - 11) ≡ b → (size m - 11) * 1024 + m / 2 ^ (size m - 11) ≤ (size n - 11) * 1024 + n / 2 ^ (size n - 11)
+    go : (b : Bool) → ltb (size m - 11) (size n - 11) ≡ b
+        → (size m - 11) * 1024 + m / 2 ^ (size m - 11) ≤ (size n - 11) * 1024 + n / 2 ^ (size n - 11)
     go true e =
         let l : size m - 11 < size n - 11 = ltb-true _ _ e in
-        let b : 1024 ≤ n / 2 ^ (size n - 11) = le-div-iff-mul-le (pow-pos (size n - 11)) .1 (le-trans (le-of-eq (sym (pow-add 2 10 (size n - 11)))) (size-reaches n (10 + (size n - 11)) (omega arith))) in
+        let b : 1024 ≤ n / 2 ^ (size n - 11) =
+        le-div-iff-mul-le (pow-pos (size n - 11)) .1
+        (le-trans (le-of-eq (sym (pow-add 2 10 (size n - 11)))) (size-reaches n (10 + (size n - 11)) (omega arith))) in
         omega (arith, top)
     go false e =
         let s : size m - 11 ≡ size n - 11 = let l : size n - 11 ≤ size m - 11 = ltb-false _ _ e in omega (arith, sizes) in

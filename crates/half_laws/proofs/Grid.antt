@@ -6,7 +6,8 @@ use mathlib.Core.Bool.{Bool, true, false}
 use mathlib.Core.Logic.{_≢_}
 use mathlib.Core.Path.{_≡_, refl, sym, ap, _∙_}
 use native.Mathlib.Omega.{arith}
-use native.Mathlib.Nat.{mul-assoc, mul-comm, mul-le-mul-right, lt-of-mul-lt-mul-right, le-trans, le-of-eq, le-of-lt, lt-of-lt-of-le, lt-of-le-of-lt, lt-of-not-le, not-le-of-lt, le-of-suc-le-suc, lt-irrefl}
+use native.Mathlib.Nat.{mul-assoc, mul-comm, mul-le-mul-right, lt-of-mul-lt-mul-right, le-trans, le-of-eq, le-of-lt, lt-of-lt-of-le}
+use native.Mathlib.Nat.{lt-of-le-of-lt, lt-of-not-le, not-le-of-lt, le-of-suc-le-suc, lt-irrefl}
 use lib.Dec.{leb, ltb}
 use lib.Pow.{pow-pos, pow-mono, pow-add}
 use lib.Ieee.{size, nearest}
@@ -17,7 +18,8 @@ use Rattle.half.specs.Exact.{Magnitude, denominator, against, whole, isNearest,
 use Rattle.half.specs.Round.{significant, encode}
 use Rattle.half.specs.declared.Mode.{Mode}
 use Rattle.half.proofs.Compare.{cmp, Cmp}
-use Rattle.half.proofs.Cuts.{left, right, against-is, right-mono, right-strict, whole-spec, whole-le, whole-ge, roundTo-le, scale-ge, scale-lt}
+use Rattle.half.proofs.Cuts.{left, right, against-is, right-mono, right-strict, whole-spec, whole-le, whole-ge, roundTo-le, scale-ge}
+use Rattle.half.proofs.Cuts.{scale-lt}
 use Rattle.half.proofs.Bridge.{encode-is}
 use Rattle.half.proofs.Units.{lift, significand-lt}
 use Rattle.half_laws.proofs.Sides.{Le, Ge}
@@ -50,15 +52,20 @@ module _ (l : ℕ) (x : Magnitude) (hd : 0 < denominator x) where
   pub kept-lt : kept l x < 2048
   kept-lt =
       let w : ℕ = whole x 1 (2 ^ l) in
-      let h : w < 2048 * 2 ^ shift l x = lt-of-lt-of-le (size-lt w) (le-trans (pow-mono {i = size w} {j = 11 + (size w - 11)} (omega arith)) (le-of-eq (pow-add 2 11 (size w - 11)))) in
-      let k : kept l x ≤ 2047 = whole-le x (2 ^ shift l x) (2 ^ l) hd (pow-pos (shift l x)) 2047 (lt-of-lt-of-le (whole-spec x 1 (2 ^ l) hd (omega arith) .1) (right-mono x {a = (w + 1) * 1} {c = 2048 * 2 ^ shift l x} (omega arith))) in
+      let h : w < 2048 * 2 ^ shift l x = lt-of-lt-of-le (size-lt w)
+      (le-trans (pow-mono {i = size w} {j = 11 + (size w - 11)} (omega arith)) (le-of-eq (pow-add 2 11 (size w - 11)))) in
+      let k : kept l x ≤ 2047 = whole-le x (2 ^ shift l x) (2 ^ l) hd (pow-pos (shift l x)) 2047
+      (lt-of-lt-of-le (whole-spec x 1 (2 ^ l) hd (omega arith) .1)
+      (right-mono x {a = (w + 1) * 1} {c = 2048 * 2 ^ shift l x} (omega arith))) in
       omega arith
 
   pub kept-ge : 11 ≤ size (whole x 1 (2 ^ l)) → 1024 ≤ kept l x
   kept-ge h =
       let w : ℕ = whole x 1 (2 ^ l) in
-      let r : 1024 * 2 ^ shift l x ≤ w = le-trans (le-of-eq (sym (pow-add 2 10 (size w - 11)))) (size-reaches w (10 + (size w - 11)) (omega arith)) in
-      whole-ge x (2 ^ shift l x) (2 ^ l) hd (pow-pos (shift l x)) 1024 (le-trans (right-mono x {a = 1024 * 2 ^ shift l x} {c = w * 1} (omega arith)) (whole-spec x 1 (2 ^ l) hd (omega arith) .0))
+      let r : 1024 * 2 ^ shift l x ≤ w = le-trans (le-of-eq (sym (pow-add 2 10 (size w - 11))))
+      (size-reaches w (10 + (size w - 11)) (omega arith)) in
+      whole-ge x (2 ^ shift l x) (2 ^ l) hd (pow-pos (shift l x)) 1024
+      (le-trans (right-mono x {a = 1024 * 2 ^ shift l x} {c = w * 1} (omega arith)) (whole-spec x 1 (2 ^ l) hd (omega arith) .0))
 
   -- the finest unit, where fewer than 11 bits are kept
   pub kept-small : kept l x < 1024 → shift l x ≡ 0
@@ -76,7 +83,8 @@ module _ (l : ℕ) (x : Magnitude) (hd : 0 < denominator x) where
       go true e =
           let s : ℕ = shift l x in
           let u : s ≤ g .1 = leb-true _ _ e in
-          let p : 2 ^ (g .1) ≡ 2 ^ (g .1 - s) * 2 ^ s = ap (λ (y : ℕ). 2 ^ y) (let y : g .1 ≡ g .1 - s + s = omega arith in y) ∙ pow-add 2 (g .1 - s) s in
+          let p : 2 ^ (g .1) ≡ 2 ^ (g .1 - s) * 2 ^ s =
+          ap (λ (y : ℕ). 2 ^ y) (let y : g .1 ≡ g .1 - s + s = omega arith in y) ∙ pow-add 2 (g .1 - s) s in
           let f : m ≡ g .0 * 2 ^ (g .1 - s) * 2 ^ s = g .3 ∙ ap (λ (y : ℕ). g .0 * y) p ∙ sym (mul-assoc (g .0) (2 ^ (g .1 - s)) (2 ^ s)) in
           let k : kept l x < g .0 * 2 ^ (g .1 - s) = lt-of-mul-lt-mul-right (2 ^ s) (lt-of-lt-of-le h (le-of-eq f)) in
           le-trans (mul-le-mul-right {m = kept l x + 1} {n = g .0 * 2 ^ (g .1 - s)} (2 ^ s) (omega arith)) (le-of-eq (sym f))
@@ -96,7 +104,13 @@ module _ (l : ℕ) (x : Magnitude) (hd : 0 < denominator x) where
 
     pub delivered-on-grid : OnGrid D
     unfolding significant
-    delivered-on-grid = (roundTo mode neg x (2 ^ shift l x) (2 ^ l), shift l x, le-trans (roundTo-le mode neg x (2 ^ shift l x) (2 ^ l)) (omega (arith, kept-lt)), refl)
+    delivered-on-grid = (
+      roundTo mode neg x (2 ^ shift l x) (2 ^ l),
+      shift l x,
+      le-trans (roundTo-le mode neg x (2 ^ shift l x) (2 ^ l))
+          (omega (arith, kept-lt)),
+      refl,
+    )
 
     -- ---- the directed roundings
 
@@ -113,24 +127,28 @@ module _ (l : ℕ) (x : Magnitude) (hd : 0 < denominator x) where
     toward-zero e o =
         let i : D ≡ Low = inward-is e o in (
           rw i (between .0),
-          λ (m : ℕ) (g : OnGrid m) (h : Ge x m (2 ^ l)). rw i (gap-below m g (lt-of-not-le (λ (k : High ≤ m). not-le-of-lt (between .1) (le-trans (right-mono x k) h)))),
+          λ (m : ℕ) (g : OnGrid m) (h : Ge x m (2 ^ l)). rw i
+              (gap-below m g (lt-of-not-le (λ (k : High ≤ m). not-le-of-lt (between .1) (le-trans (right-mono x k) h)))),
         )
 
     -- away from zero: the least that is not below it
     pub away-from-zero : isNearest mode ≡ false → outward mode neg ≡ true → Le x D (2 ^ l) × ((m : ℕ) → OnGrid m → Le x m (2 ^ l) → D ≤ m)
     away-from-zero e o = go (against x Low (2 ^ l)) (rw (against-is x Low (2 ^ l)) (cmp (left x (2 ^ l)) (right x Low))) (outward-is e o)
       where
-        go : (c : Ordering) → Cmp c (left x (2 ^ l)) (right x Low) → D ≡ ceiling (kept l x) c * 2 ^ shift l x → Le x D (2 ^ l) × ((m : ℕ) → OnGrid m → Le x m (2 ^ l) → D ≤ m)
+        go : (c : Ordering) → Cmp c (left x (2 ^ l)) (right x Low) → D ≡ ceiling (kept l x) c * 2 ^ shift l x
+            → Le x D (2 ^ l) × ((m : ℕ) → OnGrid m → Le x m (2 ^ l) → D ≤ m)
         go Ordering·lt c i = absurd (not-le-of-lt c (between .0))
         go Ordering·eq c i = (
           rw i (le-of-eq c),
           λ (m : ℕ) (g : OnGrid m) (h : Le x m (2 ^ l)).
-              rw i (le-of-suc-le-suc (lt-of-not-le (λ (k : suc m ≤ Low). not-le-of-lt (right-strict x hd {a = m} {c = Low} k) (le-trans (le-of-eq (sym c)) h)))),
+              rw i (le-of-suc-le-suc (lt-of-not-le (λ (k : suc m ≤ Low). not-le-of-lt (right-strict x hd {a = m} {c = Low} k)
+              (le-trans (le-of-eq (sym c)) h)))),
         )
         go Ordering·gt c i =
             let j : suc (kept l x) * 2 ^ shift l x ≡ High = ap (λ (y : ℕ). y * 2 ^ shift l x) (omega arith) in (
               rw (i, j) (le-of-lt (between .1)),
-              λ (m : ℕ) (g : OnGrid m) (h : Le x m (2 ^ l)). rw (i, j) (gap m g (lt-of-not-le (λ (k : m ≤ Low). not-le-of-lt c (le-trans h (right-mono x k))))),
+              λ (m : ℕ) (g : OnGrid m) (h : Le x m (2 ^ l)). rw (i, j)
+                  (gap m g (lt-of-not-le (λ (k : m ≤ Low). not-le-of-lt c (le-trans h (right-mono x k))))),
             )
 
     -- ---- nearest: half way between D and another number m of the grid lies (D + m) / 2
@@ -161,7 +179,9 @@ module _ (l : ℕ) (x : Magnitude) (hd : 0 < denominator x) where
         go : (c : Ordering) → Cmp c (left x (2 * 2 ^ l)) (right x Mid) → D ≡ nearest (kept l x) c * 2 ^ shift l x → Near
         go Ordering·lt c i = down c i
         go Ordering·eq c i =
-            tied c i (le-trans (mul-le-mul-right {m = kept l x} {n = kept l x + kept l x % 2} (2 ^ shift l x) (omega arith)) (le-of-eq (sym i))) (le-trans (le-of-eq i) (mul-le-mul-right {m = kept l x + kept l x % 2} {n = kept l x + 1} (2 ^ shift l x) (omega arith)))
+            tied c i (le-trans (mul-le-mul-right {m = kept l x} {n = kept l x + kept l x % 2} (2 ^ shift l x) (omega arith))
+            (le-of-eq (sym i))) (le-trans (le-of-eq i)
+            (mul-le-mul-right {m = kept l x + kept l x % 2} {n = kept l x + 1} (2 ^ shift l x) (omega arith)))
         go Ordering·gt c i = up c (i ∙ ap (λ (y : ℕ). y * 2 ^ shift l x) (omega arith))
 
     -- a is below b; or at most b, and then D's lowest fraction bit is 0
@@ -172,10 +192,12 @@ module _ (l : ℕ) (x : Magnitude) (hd : 0 < denominator x) where
     even-fields : D ≡ (kept l x + kept l x % 2) * 2 ^ shift l x → encode D % 2 ≡ 0
     even-fields i =
         let q : ℕ = kept l x + kept l x % 2 in
-        let n : encode D ≡ shift l x * 1024 + q = ap encode i ∙ encode-is (shift l x) q (omega (arith, kept-lt)) (λ (h : q < 1024). kept-small (omega arith)) in
+        let n : encode D ≡ shift l x * 1024 + q =
+        ap encode i ∙ encode-is (shift l x) q (omega (arith, kept-lt)) (λ (h : q < 1024). kept-small (omega arith)) in
         omega arith
 
-    beside : isNearest mode ≡ true → (m : ℕ) → OnGrid m → (D < m → Beside (left x (2 * 2 ^ l)) (right x (D + m))) × (m < D → Beside (right x (D + m)) (left x (2 * 2 ^ l)))
+    beside : isNearest mode ≡ true → (m : ℕ) → OnGrid m
+        → (D < m → Beside (left x (2 * 2 ^ l)) (right x (D + m))) × (m < D → Beside (right x (D + m)) (left x (2 * 2 ^ l)))
     beside e m g = go (near e)
       where
         -- the middle lies between D and m

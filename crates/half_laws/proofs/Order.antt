@@ -3,7 +3,8 @@ use Prim.Native.Nat.{ℕ, suc, _+_, _-_, _*_, _^_, _≤_, _<_, compare}
 use mathlib.Core.Bool.{Bool, true, false}
 use mathlib.Core.Path.{_≡_, refl, sym, ap, _∙_}
 use native.Mathlib.Omega.{arith}
-use native.Mathlib.Nat.{mul-comm, mul-pos, le-trans, le-of-eq, lt-of-lt-of-le, lt-of-not-le, not-le-of-lt, le-of-suc-le-suc, le-antisymm, lt-irrefl, add-comm}
+use native.Mathlib.Nat.{mul-comm, mul-pos, le-trans, le-of-eq, lt-of-lt-of-le, lt-of-not-le, not-le-of-lt, le-of-suc-le-suc, le-antisymm}
+use native.Mathlib.Nat.{lt-irrefl, add-comm}
 use lib.Pow.{pow-pos}
 use lib.Ieee.{size}
 use borrow.Author.Tests.{leb-true}
@@ -11,7 +12,8 @@ use Rattle.half.specs.Exact.{Magnitude, ratio, rootOf, denominator, against, wh
 use Rattle.half.specs.Round.{significant, delivered, overflows, encode, overflowFields}
 use Rattle.half.specs.declared.Mode.{Mode}
 use Rattle.half.specs.declared.Mode.the-variants.{TowardZero}
-use Rattle.half.proofs.Cuts.{left, right, weight, against-is, against-scale, left-scale, right-scale, right-mono, roundTo-same, le-scale, ge-scale, scale-le, scale-ge}
+use Rattle.half.proofs.Cuts.{left, right, weight, against-is, against-scale, left-scale, right-scale, right-mono, roundTo-same, le-scale}
+use Rattle.half.proofs.Cuts.{ge-scale, scale-le, scale-ge}
 use Rattle.half_laws.specs.Values.{Leq}
 use Rattle.half_laws.specs.Laws.{halfOf}
 use Rattle.half_laws.proofs.Sides.{Le, Ge, right-cmp, right-back, most-le, least-ge}
@@ -20,25 +22,30 @@ use Rattle.half_laws.proofs.Fields.{encode-mono, signed-le}
 use Rattle.half_laws.proofs.Delivered.{fields-fit, overflows-is, below-top, half-is, over-half, overflow-ge}
 
 -- ---- rounding turns on the number alone
-module _ (x y : Magnitude) (hx : 0 < denominator x) (hy : 0 < denominator y) (same : (a b : ℕ) → 0 < b → against x a b ≡ against y a b) where
-  round-ext : (mode : Mode) (neg : Bool) (a l : ℕ) → 0 < a → roundTo mode neg x a (2 ^ l) ≡ roundTo mode neg y a (2 ^ l)
-  round-ext mode neg a l ha = roundTo-same x y hx hy a (2 ^ l) a (2 ^ l) ha ha (λ (n : ℕ). same (n * a) (2 * 2 ^ l) (omega (arith, pow-pos l))) mode neg
+module _ (x y : Magnitude) (hx : 0 < denominator x) (hy : 0 < denominator y) (same : (a b : ℕ) → 0 < b → against x a b ≡ against y a b)
+  where
+    round-ext : (mode : Mode) (neg : Bool) (a l : ℕ) → 0 < a → roundTo mode neg x a (2 ^ l) ≡ roundTo mode neg y a (2 ^ l)
+    round-ext mode neg a l ha =
+        roundTo-same x y hx hy a (2 ^ l) a (2 ^ l) ha ha (λ (n : ℕ). same (n * a) (2 * 2 ^ l) (omega (arith, pow-pos l))) mode neg
 
-  -- the whole units are what is rounded to toward zero
-  whole-ext : (l : ℕ) → whole x 1 (2 ^ l) ≡ whole y 1 (2 ^ l)
-  unfolding roundTo
-  whole-ext l = round-ext TowardZero false 1 l (omega arith)
+    -- the whole units are what is rounded to toward zero
+    whole-ext : (l : ℕ) → whole x 1 (2 ^ l) ≡ whole y 1 (2 ^ l)
+    unfolding roundTo
+    whole-ext l = round-ext TowardZero false 1 l (omega arith)
 
-  pub significant-ext : (mode : Mode) (neg : Bool) (l : ℕ) → significant l mode neg x ≡ significant l mode neg y
-  unfolding significant
-  significant-ext mode neg l = let s : ℕ = size (whole y 1 (2 ^ l)) - 11 in rw (whole-ext l, round-ext mode neg (2 ^ s) l (pow-pos s))
+    pub significant-ext : (mode : Mode) (neg : Bool) (l : ℕ) → significant l mode neg x ≡ significant l mode neg y
+    unfolding significant
+    significant-ext mode neg l = let s : ℕ = size (whole y 1 (2 ^ l)) - 11 in rw (whole-ext l, round-ext mode neg (2 ^ s) l (pow-pos s))
 
 -- an x that is exactly m / c compares as the ratio does
-pub is-ratio : (x : Magnitude) → 0 < denominator x → (m c : ℕ) → 0 < c → left x c ≡ right x m → (a b : ℕ) → 0 < b → against x a b ≡ against (ratio m c) a b
+pub is-ratio : (x : Magnitude) → 0 < denominator x → (m c : ℕ) → 0 < c → left x c ≡ right x m → (a b : ℕ) → 0 < b
+    → against x a b ≡ against (ratio m c) a b
 unfolding against
 is-ratio x hx m c hc e a b hb =
-    let f : left x (b * c) ≡ right x (m * b) = ap (λ (z : ℕ). left x z) (mul-comm b c) ∙ left-scale x c b ∙ ap (λ (z : ℕ). z * weight x b) e ∙ sym (right-scale x m b) in
-    sym (against-scale x a b c hc) ∙ against-is x (a * c) (b * c) ∙ ap (λ (z : ℕ). compare z (right x (a * c))) f ∙ right-cmp x hx (m * b) (a * c)
+    let f : left x (b * c) ≡ right x (m * b) =
+    ap (λ (z : ℕ). left x z) (mul-comm b c) ∙ left-scale x c b ∙ ap (λ (z : ℕ). z * weight x b) e ∙ sym (right-scale x m b) in
+    sym (against-scale x a b c hc) ∙ against-is x (a * c) (b * c) ∙ ap (λ (z : ℕ). compare z (right x (a * c))) f ∙ right-cmp x hx (m * b)
+    (a * c)
 
 -- ---- the order of magnitudes, by ratios: what is at most x is at most y, and what is at least y is at least x
 abbrev pub Ordered : Magnitude → Magnitude → Type 0
@@ -87,9 +94,11 @@ module _ (x y : Magnitude) (hx : 0 < denominator x) (hy : 0 < denominator y) (le
       clash : Dy < Dx → Dx ≡ Dy
       clash h =
           let a : Ge x (Dx + Dy) (2 ^ 25) = none-nearer 24 x hx mode neg e Dy (delivered-on-grid 24 y hy mode neg) .1 h in
-          let b : Le y (Dx + Dy) (2 ^ 25) = rw (add-comm Dx Dy) (none-nearer 24 y hy mode neg e Dx (delivered-on-grid 24 x hx mode neg) .0 h) in
+          let b : Le y (Dx + Dy) (2 ^ 25) =
+          rw (add-comm Dx Dy) (none-nearer 24 y hy mode neg e Dx (delivered-on-grid 24 x hx mode neg) .0 h) in
           let l = le (Dx + Dy) (2 ^ 25) (omega arith) in
-          let at : (z : Magnitude) → 0 < denominator z → left z (2 ^ 25) ≡ right z (Dx + Dy) → delivered mode neg z ≡ delivered mode neg (ratio (Dx + Dy) (2 ^ 25)) =
+          let at : (z : Magnitude) → 0 < denominator z → left z (2 ^ 25) ≡ right z (Dx + Dy) → delivered mode neg z ≡ delivered mode neg
+          (ratio (Dx + Dy) (2 ^ 25)) =
           λ (z : Magnitude) (hz : 0 < denominator z) (f : left z (2 ^ 25) ≡ right z (Dx + Dy)).
           significant-ext z (ratio (Dx + Dy) (2 ^ 25)) hz (omega arith) (is-ratio z hz (Dx + Dy) (2 ^ 25) (omega arith) f) mode neg 24 in
           at x hx (le-antisymm (l .1 b) a) ∙ sym (at y hy (le-antisymm b (l .0 a)))
@@ -99,8 +108,12 @@ module _ (x y : Magnitude) (hx : 0 < denominator x) (hy : 0 < denominator y) (le
     where
       go : (m o : Bool) → isNearest mode ≡ m → outward mode neg ≡ o → Dx ≤ Dy
       go true o e f = order-nearest e
-      go false true e f = away-from-zero 24 x hx mode neg e f .1 Dy (delivered-on-grid 24 y hy mode neg) (le Dy (2 ^ 24) (omega arith) .1 (away-from-zero 24 y hy mode neg e f .0))
-      go false false e f = toward-zero 24 y hy mode neg e f .1 Dx (delivered-on-grid 24 x hx mode neg) (le Dx (2 ^ 24) (omega arith) .0 (toward-zero 24 x hx mode neg e f .0))
+      go false true e f =
+          away-from-zero 24 x hx mode neg e f .1 Dy (delivered-on-grid 24 y hy mode neg)
+          (le Dy (2 ^ 24) (omega arith) .1 (away-from-zero 24 y hy mode neg e f .0))
+      go false false e f =
+          toward-zero 24 y hy mode neg e f .1 Dx (delivered-on-grid 24 x hx mode neg)
+          (le Dx (2 ^ 24) (omega arith) .0 (toward-zero 24 x hx mode neg e f .0))
 
   -- the halves too: what overflows is above what does not
   pub half-order : (unmaskedUE : Bool) → halfOf mode unmaskedUE neg x ≤ halfOf mode unmaskedUE neg y
@@ -108,7 +121,11 @@ module _ (x y : Magnitude) (hx : 0 < denominator x) (hy : 0 < denominator y) (le
     where
       go : (b c : Bool) → overflows mode neg x ≡ b → overflows mode neg y ≡ c → halfOf mode unmaskedUE neg x ≤ halfOf mode unmaskedUE neg y
       go true true e f = rw (over-half mode unmaskedUE neg x e, over-half mode unmaskedUE neg y f) (le-of-eq refl)
-      go true false e f = absurd (not-le-of-lt (below-top mode neg y hy f) (le-trans (leb-true _ _ (sym (overflows-is mode neg x hx) ∙ e)) order-kept))
+      go true false e f =
+          absurd (not-le-of-lt (below-top mode neg y hy f) (le-trans (leb-true _ _ (sym (overflows-is mode neg x hx) ∙ e)) order-kept))
       go false true e f = rw (half-is mode neg x hx e unmaskedUE, over-half mode unmaskedUE neg y f)
-          (signed-le neg (encode Dx) (overflowFields mode neg) (le-trans (le-of-suc-le-suc (fields-fit mode neg x hx (below-top mode neg x hx e))) (overflow-ge mode neg)))
-      go false false e f = rw (half-is mode neg x hx e unmaskedUE, half-is mode neg y hy f unmaskedUE) (signed-le neg (encode Dx) (encode Dy) (encode-mono Dx Dy order-kept))
+          (signed-le neg (encode Dx) (overflowFields mode neg)
+          (le-trans (le-of-suc-le-suc (fields-fit mode neg x hx (below-top mode neg x hx e))) (overflow-ge mode neg)))
+      go false false e f =
+          rw (half-is mode neg x hx e unmaskedUE, half-is mode neg y hy f unmaskedUE)
+          (signed-le neg (encode Dx) (encode Dy) (encode-mono Dx Dy order-kept))

@@ -15,7 +15,7 @@ use Rattle.half.specs.Work.{place}
 use Rattle.half.specs.Operations.{cancelled, exactly, exactSum}
 use Rattle.half.specs.declared.Mode.{Mode}
 use Rattle.half.specs.declared.Mode.the-variants.{Nearest, Down, Up, TowardZero}
-use Rattle.half.proofs.Special.{exponent-negated, ratio-negated}
+use Rattle.half.proofs.Special.{exponent-negated, fraction-negated}
 use Rattle.half.proofs.Steps.{zero-rounds}
 use Rattle.half.proofs.Sticky.{placed-ratio}
 use Rattle.half.proofs.Sums.{beq-eq}
@@ -145,8 +145,8 @@ pub finite-negated : (h : ℕ) → isFinite (negated h) ≡ isFinite h
 finite-negated h = rw (exponent-negated h)
 
 pub subnormal-negated : (h : ℕ) → isSubnormal (negated h) ≡ isSubnormal h
-subnormal-negated h = rw (exponent-negated h, ratio-negated h)
+subnormal-negated h = rw (exponent-negated h, fraction-negated h)
 
 pub value-negated : (h : ℕ) → h < 2 ^ 16 → value (negated h) ≡ negℤ (value h)
 unfolding units
-value-negated h l = rw (negative-negated h l, exponent-negated h, ratio-negated h) (turned (negative h) (units h))
+value-negated h l = rw (negative-negated h l, exponent-negated h, fraction-negated h) (turned (negative h) (units h))

@@ -91,18 +91,24 @@ part-put-lines-start c = search needs
 
 part-put-lines-end : tie.Need-part-put-lines-end
 part-put-lines-end c =
+    let far = c .before .before .before .before .before .before .before .before .before .before in
+    let laid-out = far .before .before .before .before .before in
     let code-length = c .before .before .before .before .before .code-length in
-    omega (arith, parts (c .before .before .before .before .before .before .before .before .before .before .before .before .before .before .before), code-length .ensures .0)
+    omega (arith, parts laid-out, code-length .ensures .0)
 
 sub-put-lines-2 : tie.Need-sub-put-lines-2
 sub-put-lines-2 c =
+    let far = c .before .before .before .before .before .before .before .before .before .before in
+    let laid-out = far .before .before .before .before .before .before in
     let code-length = c .before .before .before .before .before .before .code-length in
-    omega (arith, parts (c .before .before .before .before .before .before .before .before .before .before .before .before .before .before .before .before), code-length .ensures .0)
+    omega (arith, parts laid-out, code-length .ensures .0)
 
 part-put-lines-start-2 : tie.Need-part-put-lines-start-2
 part-put-lines-start-2 c =
+    let far = c .before .before .before .before .before .before .before .before .before .before in
+    let laid-out = far .before .before .before .before .before .before in
     let code-length = c .before .before .before .before .before .before .code-length in
-    omega (arith, parts (c .before .before .before .before .before .before .before .before .before .before .before .before .before .before .before .before), code-length .ensures .0)
+    omega (arith, parts laid-out, code-length .ensures .0)
 
 part-put-lines-end-2 : tie.Need-part-put-lines-end-2
 part-put-lines-end-2 c = search needs
@@ -110,12 +116,13 @@ part-put-lines-end-2 c = search needs
 put-lines-requires : tie.Need-put-lines-requires
 put-lines-requires c κs =
     let far = c .before .before .before .before .before .before .before .before .before .before in
+    let laid-out = far .before .before .before .before .before .before .before .before in
     let start : tie.Start = far .before .before .before .before .before .before .before .before .before .before .before .before in
     let code-length = c .before .before .before .before .before .before .before .before .code-length in (
       simp (length-take, length-drop) (omega (
         arith,
         parts
-            (c .before .before .before .before .before .before .before .before .before .before .before .before .before .before .before .before .before .before),
+            laid-out,
         code-length .ensures .0,
       )),
       start .pre,
@@ -128,12 +135,14 @@ returns-3 : tie.Need-returns-3
 unfolding blank table
 returns-3 c =
     let far = c .before .before .before .before .before .before .before .before .before .before in
-    let start : tie.Start = far .before .before .before .before .before .before .before .before .before .before .before .before .before .before .before .before in
+    let laid-out = far .before .before .before .before .before .before .before .before .before .before .before .before in
+    let farther = far .before .before .before .before .before .before .before .before in
+    let start : tie.Start = farther .before .before .before .before .before .before .before .before in
     let load = far .before .before .before .before .before .load in
     let if2 = far .before .before .before .if2 in
     let code-length = far .before .before .code-length in
     rw (good-lines (start .args .input .now) (laid
-    (c .before .before .before .before .before .before .before .before .before .before .before .before .before .before .before .before .before .before .before .before .before .before)) _ _ (load .ensures) (if2 .left) (code-length .result) (code-length .ensures .0))
+    laid-out) _ _ (load .ensures) (if2 .left) (code-length .result) (code-length .ensures .0))
     (c .before .before .before .put-lines .ensures)
 
 pub print-spec : {M : Type 1} → statement M

@@ -24,7 +24,8 @@ headed c =
     }
 
 rowed : (c : tie.Else5)
-    → Rowed (now (c .before .before .before .before .before .before .before .before .before .before .before .before .before .before .args .code)) (c .before .before .before .before .before .before .before .before .of .result)
+    → Rowed (now (c .before .before .before .before .before .before .before .before .before .before .before .before .before .before .args .code))
+    (c .before .before .before .before .before .before .before .before .of .result)
     (c .before .before .before .row .given .0 .0)
 rowed c =
     record {

@@ -20,19 +20,30 @@ read-to-requires : tie.Need-read-to-requires Inv-loop μ-loop
 read-to-requires c κs = c .before .before .loop .inv .0
 
 same-length : tie.Need-same-length Inv-loop μ-loop
-same-length c = c .before .before .before .before .read-to .kept .0 ∙ c .before .before .before .before .before .before .before .loop .inv .1
+same-length c =
+    let read-to = c .before .before .before .before .read-to in
+    let loop = c .before .before .before .before .before .before .before .loop in
+    read-to .kept .0 ∙ loop .inv .1
 
 returns : tie.Need-returns Inv-loop μ-loop
-returns c = omega (arith, c .before .before .before .before .read-to .kept .0, c .before .before .before .before .before .before .before .loop .inv)
+returns c =
+    let read-to = c .before .before .before .before .read-to in
+    let loop = c .before .before .before .before .before .before .before .loop in
+    omega (arith, read-to .kept .0, loop .inv)
 
 add-count : tie.Need-add-count Inv-loop μ-loop
 add-count c = omega (arith, c .before .before .before .before .before .read-to .ensures)
 
 loop-less : tie.Need-loop-less Inv-loop μ-loop
-loop-less c = omega (arith, c .before .before .before .before .before .read-to .ensures, c .before .before .before .before .before .read-to .kept .0)
+loop-less c =
+    let read-to = c .before .before .before .before .before .read-to in
+    omega (arith, read-to .ensures, read-to .kept .0)
 
 loop-again : tie.Need-loop-again Inv-loop μ-loop
-loop-again c = omega (arith, c .before .before .before .before .before .read-to .ensures, c .before .before .before .before .before .read-to .kept .0, c .before .before .before .before .before .before .before .before .loop .inv)
+loop-again c =
+    let read-to = c .before .before .before .before .before .read-to in
+    let loop = c .before .before .before .before .before .before .before .before .loop in
+    omega (arith, read-to .ensures, read-to .kept .0, loop .inv)
 
 same-length-2 : tie.Need-same-length-2 Inv-loop μ-loop
 same-length-2 c = c .before .loop .inv .1
@@ -41,4 +52,6 @@ returns-2 : tie.Need-returns-2 Inv-loop μ-loop
 returns-2 c = c .before .loop .inv .0
 
 pub read-input-spec : {M : Type 1} → statement M
-read-input-spec = tie.close (tie.spec Inv-loop μ-loop loop-holds read-to-requires same-length returns add-count loop-less loop-again same-length-2 returns-2)
+read-input-spec =
+    tie.close (tie.spec Inv-loop μ-loop loop-holds read-to-requires same-length returns add-count loop-less loop-again same-length-2
+    returns-2)

@@ -45,7 +45,8 @@ slice-aggregate-put-text-3 c = search needs
 put-text-requires-3 : tie.Need-put-text-requires-3
 put-text-requires-3 c κs =
     let far = c .before .before .before .before .before .before .before .before .before .before in
-    let start : tie.Start = far .before .before .before .before .before .before .before .before .before .before .before .before .before .before .before in
+    let start : tie.Start =
+    far .before .before .before .before .before .before .before .before .before .before .before .before .before .before .before in
     omega (arith, decimal-most (start .args .offset), decimal-most (start .args .number), hex-eight (start .args .control))
 
 same-length : tie.Need-same-length
@@ -55,8 +56,9 @@ returns : tie.Need-returns
 unfolding stepLine
 returns c =
     let far = c .before .before .before .before .before .before .before .before .before .before in
-    let start : tie.Start = far .before .before .before .before .before .before .before .before .before .before .before .before .before .before .before .before .before .before in
-    let put-decimal = far .before .before .before .before .before .before .before .before .before .before .before .before .before .before .before .put-decimal in
+    let farther = far .before .before .before .before .before .before .before .before in
+    let start : tie.Start = farther .before .before .before .before .before .before .before .before .before .before in
+    let put-decimal = farther .before .before .before .before .before .before .before .put-decimal in
     let put-text = far .before .before .before .before .before .before .before .before .before .before .put-text in
     let put-decimal2 = far .before .before .before .before .before .before .put-decimal2 in
     let put-text2 = far .before .put-text2 in
