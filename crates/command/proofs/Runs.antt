@@ -1,18 +1,18 @@
 -- The statements of specs/Runs.antt: by the number of steps that are left, which bytes of code bound.
 -- Assumes nothing.
 use Prim.Native.Nat.{ℕ, zero, suc, _+_, _*_, _≤_, _<_}
-use mathlib.Core.Path.{_≡_, refl, sym, ap, _∙_}
+use mathlib.Core.Path.{_≡_, refl, sym}
 use mathlib.Core.Bool.{Bool, true, false, cond}
 use mathlib.Core.List.{List, [], _∷_, _++_, append-assoc, append-nil}
 use native.Mathlib.Omega.{arith}
-use borrow.Author.Tests.{le-leb, leb-true, leb-false, eqb-true, eqb-false}
+use borrow.Author.Tests.{leb-true, leb-false, eqb-true, eqb-false}
 use lib.Dec.{eqb, leb}
 use lib.ListN.{length, drop, length-append, length-take}
 use Rattle.machine.specs.State.{State, Stepped}
 use Rattle.machine.specs.Step.{step, run}
 use Rattle.command.specs.Command.{stepLine, stopLine, linesFrom, badInput, codeOf, memoryOf, startOf, isLaidOut, isGood, printed}
 use Rattle.command.specs.Command.{room}
-use Rattle.command.specs.Runs.{codesAt, stepLines, Course, ended, stopped, done, Runs, Prints}
+use Rattle.command.specs.Runs.{ended, stopped, done, Runs, Prints}
 use Rattle.command.proofs.Sizes.{moves}
 use Rattle.command.proofs.Lines.{stop-most, step-most, step-short}
 use Rattle.command.proofs.Input.{LaidOut, laid-out, both}

@@ -11,7 +11,7 @@ use Rattle.evex.proofs.Bounds.{Bounds, bounds}
 use Rattle.machine.specs.State.{State, Stepped}
 use Rattle.machine.specs.Memory.{needsOutside}
 use Rattle.machine.specs.Lanes.{gathered, raisesUnmasked}
-use Rattle.machine.specs.Step.{refused, stopped, completed, step}
+use Rattle.machine.specs.Step.{stopped, completed, step}
 use Rattle.machine.proofs.Ends.{Way, early, fields, way, step-early, step-decoded}
 
 abbrev pub Moves : Stepped → Type 0

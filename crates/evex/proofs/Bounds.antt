@@ -1,7 +1,7 @@
 -- The ranges of a decoded instruction's fields, for whoever uses them as indices: each is a few bits, so they hold of any bytes.
 -- Assumes nothing.
 use mathlib.Core.Path.{_≡_, subst}
-use mathlib.Core.Bool.{Bool, true, false, cond, not, _&&_, _||_}
+use mathlib.Core.Bool.{Bool, cond, not, _&&_, _||_}
 use mathlib.Core.List.{List, [], _∷_, map}
 use Prim.Native.Nat.{ℕ, _≤_, _<_}
 use native.Mathlib.Omega.{arith}
@@ -12,7 +12,7 @@ use Rattle.lists.specs.Lists.{firstOf}
 use Rattle.lists.proofs.Tests.{either}
 use Rattle.evex.specs.Bits.{bits}
 use Rattle.evex.specs.List.{hasFirst}
-use Rattle.evex.specs.Fields.{headOf, b, lengthBits, modBits, rm, listed, destination, firstSource, secondSource, first, registerForm}
+use Rattle.evex.specs.Fields.{headOf, lengthBits, modBits, rm, listed, destination, first, registerForm}
 use Rattle.evex.specs.Fields.{embeddedRounding, lanes, hasSib, baseBits, indexNumber, indexOf, noBase, baseOf, displacementAt}
 use Rattle.evex.specs.Fields.{displacementSize, size, displacementOf, second, instruction}
 use Rattle.evex.specs.Decode.{refusals, fields, decoded}

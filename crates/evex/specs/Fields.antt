@@ -157,7 +157,7 @@ module _ (h : Head) where
   unfoldable pub size : ℕ
   size = displacementAt + displacementSize
 
-  -- 01, Fields, memory: displacements are signed. An 8-bit one is multiplied by N: 16, 32 or 64 by lane count, or 2 with b (broadcast).
+  -- 01, Fields, memory: displacements are signed. An 8-bit one counts in N bytes: 16, 32 or 64 by lane count, or 2 with b (broadcast).
   unfoldable pub N : ℕ
   N = cond b 2 (2 * lanes)
 

@@ -19,7 +19,7 @@ use Rattle.evex.specs.declared.Rounding.the-variants.{Control, Embedded}
 use Rattle.evex.specs.declared.Decoded.{Decoded}
 use Rattle.evex.specs.declared.Decoded.the-variants.{Fields, Refused}
 use Rattle.evex.proofs.After.{after}
-use Rattle.machine.specs.State.{State, Stepped}
+use Rattle.machine.specs.State.{State}
 use Rattle.machine.specs.Memory.{needsOutside}
 use Rattle.machine.specs.Lanes.{gathered, raisesUnmasked, recorded, controlAfter}
 use Rattle.machine.specs.Step.{ofFields, beforeSeven, conditions, answerOf, refused, stopped, completed, step}

@@ -30,7 +30,7 @@ abbrev pub steppedOf : Answer → List ℕ → List ℕ → List ℕ → ℕ →
 steppedOf answer vectors masks general control pointer =
     record { answer = answer; state = stateOf vectors masks general control pointer }
 
--- where register n begins in the vector file, and the two places of its lane j
+-- the byte of the vector file at which register n begins, and the two of its lane j
 abbrev pub registerAt : ℕ → ℕ
 registerAt n = n * 64
 
