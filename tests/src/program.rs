@@ -66,6 +66,13 @@ impl Program {
         self.finish(output.expect("the command starts"))
     }
 
+    /// What is printed on standard output and on standard error, with any standard input.
+    pub fn printed(&self, stdin: impl Into<Stdio>) -> (Vec<u8>, Vec<u8>) {
+        let output = Command::new(&self.path).stdin(stdin).output();
+        let output = output.expect("the command starts");
+        (output.stdout, output.stderr)
+    }
+
     /// What is printed, of a program that ends by itself and not by a signal.
     fn finish(&self, child: Child) -> Vec<u8> {
         let output = child.wait_with_output().expect("the command ends");

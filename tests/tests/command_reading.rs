@@ -3,30 +3,23 @@
 
 use ridgecrook_tests::command_input::input;
 use ridgecrook_tests::machine::Machine;
+use ridgecrook_tests::program::Program;
 use ridgecrook_tests::second::command::output;
 use std::fs::File;
 use std::io::Write;
 use std::os::fd::OwnedFd;
 use std::os::unix::net::UnixStream;
-use std::path::{Path, PathBuf};
-use std::process::{Command, Stdio};
+use std::process::Stdio;
 use std::thread;
 use std::time::Duration;
 
 const FAILED: &str = "run: standard input could not be read\n";
 
-/// `ridgecrook_tests::program` finds it alike, but lends the command no input of another kind.
-fn path() -> PathBuf {
-    let built = Path::new(env!("CARGO_MANIFEST_DIR")).join("../target/bin/run");
-    std::env::var_os("RIDGECROOK_COMMAND").map_or(built, PathBuf::from)
-}
-
 /// What the command prints on standard output and on standard error.
 fn printed(stdin: impl Into<Stdio>) -> (String, String) {
-    let run = Command::new(path()).stdin(stdin).output();
-    let run = run.expect("the command starts: `rt check run` makes it");
+    let (out, err) = Program::found().printed(stdin);
     let text = |bytes| String::from_utf8(bytes).expect("text");
-    (text(run.stdout), text(run.stderr))
+    (text(out), text(err))
 }
 
 /// The same with one end of a connection as standard input.

@@ -1,6 +1,5 @@
 -- The loop of the steps: what was printed so far, followed by the lines from the present offset on, is all that is to be printed. A step
--- that is
--- done moves the offset by six or more and prints 16 bytes at most, so the place never runs ahead of 16/6 of the offset.
+-- that is done moves the offset by six or more and prints 16 bytes at most, so the place never runs ahead of 16/6 of the offset.
 -- Assumes nothing.
 use Prim.Native.Nat.{ℕ, _+_, _*_, _-_, _≤_, _<_}
 use mathlib.Core.Path.{_≡_, refl, sym, ap, _∙_}

@@ -17,8 +17,7 @@ use Rattle.evex.specs.declared.Decoded.{Decoded}
 use Rattle.evex.specs.declared.Decoded.the-variants.{Fields, Refused}
 
 -- 01, Numbers: the table. 3: bytes end inside the instruction; 4: byte 0 not 62, or not in the list; 5: reserved encoding; 6: instruction
--- longer
--- than 15 bytes.
+-- longer than 15 bytes.
 abbrev pub numberOf : Refusal → ℕ
 numberOf Incomplete = 3
 numberOf Unlisted = 4
@@ -93,8 +92,7 @@ fields h code (Found row) = Fields (instruction h row (displacementOf h code))
 fields h code Nothing = Refused Unlisted
 
 -- The refusal that comes first, or else the fields. Document 01 says 'decoded' of an instruction that nothing before 7 refuses: here
--- `Fields`, where
--- neither 1 nor 2 is given.
+-- `Fields`, where neither 1 nor 2 is given.
 unfoldable pub decoded : List ℕ → Decoded
 decoded code =
     let h : Head = headOf code in

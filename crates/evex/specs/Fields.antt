@@ -1,6 +1,6 @@
 -- Document 01, 'Fields of an instruction' (below: 01, Fields), in its order. Of bytes that are refused the fields do not count
--- (Decode.antt).
--- What 01 leaves to Intel's SDM (volume 2, 2.1.5): the sizes by mod, the scale, and that a displacement has its lowest byte first.
+-- (Decode.antt). What 01 leaves to Intel's SDM (volume 2, 2.1.5): the sizes by mod, the scale, and that a displacement has its lowest
+-- byte first.
 use Prim.Native.Nat.{ℕ, _+_, _*_}
 use mathlib.Core.Bool.{Bool, cond, not, _&&_, _||_}
 use mathlib.Core.List.{List}

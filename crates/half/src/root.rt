@@ -15,9 +15,8 @@ use super::normal;
 use super::operands;
 
 // A line that stays near the root of n, for an n of 23 digits one, for 24 (long) another: start + rise / 2^24. It is off by less than 20
-// and
-// 28, and the root is 2048 or more, so that the mean of Heron's rule is above the root by less than 1/7. (Tried for every n: rounded down,
-// it is the whole root or the next number.)
+// and 28, and the root is 2048 or more, so that the mean of Heron's rule is above the root by less than 1/7. (Tried for every n: rounded
+// down, it is the whole root or the next number.)
 fn start(long: bool) -> u64
     ensures { λ r. ⌜ (0 < r) × (r < 2 ^ 11) ⌝ }
 {

@@ -1,6 +1,5 @@
 -- Laws of the lists that the definitions make, over any elements: `table`, `some`, `orAll`, `paste`. A loop meets a table one index at a
--- time
--- (`table-next`, `some-next`, `or-next`); where it has filled an array, `is-table` says what it is.
+-- time (`table-next`, `some-next`, `or-next`); where it has filled an array, `is-table` says what it is.
 -- Assumes nothing.
 use Prim.Native.Nat.{ℕ, zero, suc, _+_, _*_, _/_, _^_, _≤_, _<_}
 use mathlib.Core.Path.{_≡_, refl, sym, ap, ap₂, _∙_}

@@ -1,6 +1,5 @@
 -- The ways in which a step ends, a law for each `return` of a code that tests in the order of document 01: what the proof of the step's
--- code cites.
--- Below them the two ways that the theorems go by: something before 7 refuses, or the instruction is decoded.
+-- code cites. Below them the two ways that the theorems go by: something before 7 refuses, or the instruction is decoded.
 -- Assumes nothing.
 use Prim.Native.Nat.{ℕ, suc, _≤_, _<_, _^_}
 use mathlib.Core.Path.{_≡_, refl, _∙_}

@@ -1,10 +1,8 @@
 -- Demand 3: the two-run theorem of specs/TwoRuns.antt.
 --
 -- A step looks at the vector file and the memory in three ways: at their lengths; through `gathered`, only at lanes that are on and at
--- bytes
--- that these need (`gathered-equal`); and at the destination's own bytes, each of which is kept at its place (`written-alike`). Everything
--- else
--- is computed from the registers, the bytes and what was gathered, which are equal in both runs (`.. same`).
+-- bytes that these need (`gathered-equal`); and at the destination's own bytes, each of which is kept at its place (`written-alike`).
+-- Everything else is computed from the registers, the bytes and what was gathered, which are equal in both runs (`.. same`).
 -- Assumes nothing.
 use Prim.Native.Nat.{ℕ, suc, _+_, _≤_, _<_}
 use mathlib.Core.Path.{_≡_, refl, sym, ap, _∙_, subst}

@@ -85,14 +85,14 @@ gathered memory s i =
 -- first source (src2) and of the second (src3)
 
 unfoldable pub laneOutcome : Operation → Mode → Bool → ℕ → ℕ → ℕ → Outcome
-laneOutcome Add m u d f x = halfAdd m u f x
-laneOutcome Multiply m u d f x = halfMultiply m u f x
-laneOutcome Subtract m u d f x = halfSubtract m u f x
-laneOutcome Divide m u d f x = halfDivide m u f x
-laneOutcome SquareRoot m u d f x = halfRoot m u x
-laneOutcome Fused132 m u d f x = halfMultiplyAdd m u d x f
-laneOutcome Fused213 m u d f x = halfMultiplyAdd m u f d x
-laneOutcome Fused231 m u d f x = halfMultiplyAdd m u f x d
+laneOutcome Add m ue d f x = halfAdd m ue f x
+laneOutcome Multiply m ue d f x = halfMultiply m ue f x
+laneOutcome Subtract m ue d f x = halfSubtract m ue f x
+laneOutcome Divide m ue d f x = halfDivide m ue f x
+laneOutcome SquareRoot m ue d f x = halfRoot m ue x
+laneOutcome Fused132 m ue d f x = halfMultiplyAdd m ue d x f
+laneOutcome Fused213 m ue d f x = halfMultiplyAdd m ue f d x
+laneOutcome Fused231 m ue d f x = halfMultiplyAdd m ue f x d
 
 -- ---- all lanes
 

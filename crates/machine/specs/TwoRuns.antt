@@ -36,8 +36,7 @@ abbrev pub IsDecoded : State → List ℕ → Instruction → Type 0
 IsDecoded s code i = NoneHolds (beforeSeven s code) × (decoded code ≡ Fields i)
 
 -- "It switches on lane j when j is below its number of lanes and either aaa is 000 or bit j of mask register aaa is one as the step
--- begins."
--- (A term of document 01.)
+-- begins." (A term of document 01.)
 abbrev pub SwitchesOn : State → Instruction → ℕ → Type 0
 SwitchesOn s i j = on s i j ≡ true
 

@@ -1,6 +1,5 @@
 -- What the parts of a step compute, over the numbers that they are given. Used by the code, nothing to believe: the laws of
--- proofs/Meaning.antt
--- tie each to the definition of the machine that it serves.
+-- proofs/Meaning.antt tie each to the definition of the machine that it serves.
 use Prim.Native.Nat.{ℕ, _/_, _%_, _^_}
 use mathlib.Core.Bool.{Bool, false, cond, not, _&&_}
 use mathlib.Core.List.{List}
