@@ -13,6 +13,9 @@
  * point to, and it writes nowhere but where its description says (neither the processor's control
  * word nor errno, for example). Every function may be called from any thread at any time, as long
  * as no other thread writes what this call was lent, or reads what this call writes.
+ *
+ * R4.2 and the like are clauses of docs/RULES.md, which has every rule in full, with the definition
+ * that is proved. This file is enough to use the library.
  */
 #ifndef RIDGECROOK_H
 #define RIDGECROOK_H
@@ -25,20 +28,20 @@ extern "C" {
 #endif
 
 /*
- * Answers. The library has one table of answer numbers. The arithmetic gives only 0 and 9, a step
- * 0 to 8, a save 0 to 2, a load 0, 1, 2 and 10.
+ * Answers (R4.1). The library has one table of answer numbers. The arithmetic gives only 0 and 9, a
+ * step 0 to 8, a save 0 to 2, a load 0, 1, 2 and 10.
  *
  *    0  done
  *    1  the vector file has not 2,048 bytes, or the target of a save has not 2,257
- *    2  the control word has a bit above bit 15
- *    3  the bytes end inside the instruction
- *    4  byte 0 is not 0x62, or the instruction is not among those carried out
+ *    2  the control word is above 0xFFFF
+ *    3  the code ends too early
+ *    4  the code begins with no instruction that is carried out
  *    5  reserved encoding
  *    6  the instruction is longer than 15 bytes (which no instruction carried out now is)
- *    7  an address that is needed lies outside memory
+ *    7  a byte that is needed lies outside memory
  *    8  unmasked numeric exception
  *    9  rounding mode above 3: the half is 0x0000 and the flags are 0
- *   10  the saved form is wrong
+ *   10  not a saved form
  */
 #define RIDGECROOK_DONE 0
 #define RIDGECROOK_BAD_SIZE 1
@@ -52,13 +55,13 @@ extern "C" {
 #define RIDGECROOK_BAD_MODE 9
 #define RIDGECROOK_BAD_SAVED 10
 
-/* Rounding modes, numbered as in bits 13 and 14 of the control word (MXCSR). */
+/* Rounding modes (R6.4), numbered as in bits 13 and 14 of the control word (MXCSR). */
 #define RIDGECROOK_NEAREST 0     /* to the nearest half, ties to even */
 #define RIDGECROOK_DOWN 1        /* toward minus infinity */
 #define RIDGECROOK_UP 2          /* toward plus infinity */
 #define RIDGECROOK_TOWARD_ZERO 3
 
-/* Exception flags, at the places that they have in bits 0 to 5 of the control word (MXCSR). */
+/* Exception flags (R1.5), at their places in the control word (MXCSR). */
 #define RIDGECROOK_IE 1  /* invalid: a signalling NaN, or an operation without a result */
 #define RIDGECROOK_DE 2  /* denormal: an operand is subnormal */
 #define RIDGECROOK_ZE 4  /* a finite number other than zero was divided by zero */
@@ -75,32 +78,33 @@ typedef struct {
 } ridgecrook_rounded;
 
 /*
- * The six operations: pure functions that take every value of every argument. Common to all:
+ * The six operations (R8.1 to R8.3): pure functions that take every value of every argument. Common
+ * to all:
  *
  *   a, b, c             The operands.
  *   mode                A rounding mode, 0 to 3. Any other number is refused: the answer is
  *                       RIDGECROOK_BAD_MODE, whatever the other arguments are.
  *   underflow_unmasked  0 is no, every other number is yes: whether the underflow exception is
  *                       unmasked. The half is the same either way. With no, a tiny result raises
- *                       RIDGECROOK_UE only if it is inexact; with yes, also if it is exact. Tiny
- *                       is a result other than zero that is below 2 to the -14 in magnitude after
- *                       rounding to 11 significant bits.
+ *                       RIDGECROOK_UE only if it is inexact; with yes, also if it is exact
+ *                       (R6.23). Tiny is a result other than zero whose magnitude does not reach
+ *                       2 to the -14, rounded to 11 significant bits (R6.21).
  *
  * Both are 32 bits wide, so that no int or unsigned that a caller passes is cut to a valid one.
  *
  * The exact result is rounded once. A NaN operand is handed back made quiet, the first one if
- * there are several; the flag is then RIDGECROOK_IE if any operand is signalling, else none. An
- * operation without a result (infinities that cancel, zero times infinity, 0/0, infinity divided
- * by infinity, the root of a negative number) gives 0xFE00 and RIDGECROOK_IE. A finite number
- * other than zero divided by zero gives an infinity and RIDGECROOK_ZE alone. Subnormal operands
- * and results are never taken as zero.
+ * there are several; the flag is then RIDGECROOK_IE if any operand is signalling, else none (R6.6).
+ * An operation without a result (infinities that cancel, zero times infinity, 0/0, infinity divided
+ * by infinity, the root of a number below zero) gives 0xFE00 and RIDGECROOK_IE (R6.7). A finite
+ * number other than zero divided by zero gives an infinity and RIDGECROOK_ZE alone (R6.8).
+ * Subnormal operands and results are never taken as zero.
  */
 
 /* a + b */
 ridgecrook_rounded ridgecrook_add(uint16_t a, uint16_t b, uint32_t mode,
                                   uint32_t underflow_unmasked);
 
-/* a - b; a NaN in b keeps its sign */
+/* a - b; a NaN in b keeps its sign (R6.13) */
 ridgecrook_rounded ridgecrook_subtract(uint16_t a, uint16_t b, uint32_t mode,
                                        uint32_t underflow_unmasked);
 
@@ -112,14 +116,14 @@ ridgecrook_rounded ridgecrook_multiply(uint16_t a, uint16_t b, uint32_t mode,
 ridgecrook_rounded ridgecrook_divide(uint16_t a, uint16_t b, uint32_t mode,
                                      uint32_t underflow_unmasked);
 
-/* The square root of a; that of -0 is -0. */
+/* The square root of a; for -0 it is -0 (R6.14). */
 ridgecrook_rounded ridgecrook_square_root(uint16_t a, uint32_t mode, uint32_t underflow_unmasked);
 
-/* a * b + c, the product exact and the sum rounded once */
+/* a * b + c, the product exact and the sum rounded once (R6.15) */
 ridgecrook_rounded ridgecrook_fused_multiply_add(uint16_t a, uint16_t b, uint16_t c, uint32_t mode,
                                                  uint32_t underflow_unmasked);
 
-/* The state of a machine, as a step takes it. */
+/* The state of a machine, as a step takes it (R1.1 to R1.7). */
 #define RIDGECROOK_VECTORS_SIZE 2048    /* the vector file: 32 registers of 64 bytes */
 #define RIDGECROOK_REGISTER_SIZE 64     /* one vector register: 32 lanes of 2 bytes */
 #define RIDGECROOK_MASKS 8              /* the mask registers k0 to k7 */
@@ -128,7 +132,7 @@ ridgecrook_rounded ridgecrook_fused_multiply_add(uint16_t a, uint16_t b, uint16_
 #define RIDGECROOK_CONTROL_RESET 0x1F80 /* the control word (MXCSR) of a processor after reset: no
                                            flag, every exception masked, rounding to nearest */
 
-/* What a step hands back: 8 bytes, without padding. */
+/* What a step hands back (R4.17): 8 bytes, without padding. */
 typedef struct {
     uint32_t number; /* RIDGECROOK_DONE to RIDGECROOK_EXCEPTION, see the table of answers */
     uint32_t length; /* the instruction's length in bytes; 0 unless number is RIDGECROOK_DONE */
@@ -137,49 +141,63 @@ typedef struct {
 /*
  * Carries out one instruction, the one that `code` begins with: a packed VADDPH, VSUBPH, VMULPH,
  * VDIVPH, VSQRTPH, VFMADD132PH, VFMADD213PH or VFMADD231PH, with registers or memory, in 64-bit
- * mode.
+ * mode (R2.1).
  *
- *   vectors, vectors_length  The vector file, register 0 first, lane 0 of a register in its lowest
- *                            two bytes, little-endian. A length other than
- *                            RIDGECROOK_VECTORS_SIZE is refused.
+ *   vectors, vectors_length  The vector file: the 32 registers in rising order, each with its 32
+ *                            lanes in rising order, a half with its low byte first (R1.2, R1.3).
+ *                            A length other than RIDGECROOK_VECTORS_SIZE is refused.
  *   masks                    k0 to k7. No instruction of today writes one.
  *   general                  The general registers; only read.
- *   control                  The control word, laid out as MXCSR: flags in bits 0 to 5, their
- *                            masks in 7 to 12, the rounding mode in 13 and 14. Bits 6 and 15 (DAZ
- *                            and FZ) have no effect on halves. A word with a bit above 15 is
- *                            refused.
+ *   control                  The control word, laid out as MXCSR (R1.5): bits 0 to 5 are flags,
+ *                            7 to 12 mask the same exceptions, 13 and 14 are the rounding mode.
+ *                            Bits 6 and 15 (DAZ and FZ) have no effect (R1.6). A word above 0xFFFF
+ *                            is refused.
  *   pointer                  The address of the instruction, which addresses relative to the next
  *                            instruction count from.
- *   code, code_length        The bytes from the instruction on; only read. Bytes after the
- *                            instruction are not looked at, so the rest of a program may be lent,
- *                            and 15 bytes are always enough.
+ *   code, code_length        The bytes from the instruction on; only read. What stands behind the
+ *                            instruction has no effect (R4.18), so the rest of a program may be
+ *                            lent, and 15 bytes are always enough.
  *   memory, memory_length    What stands at the addresses 0 to memory_length - 1; only read. All
- *                            other addresses lie outside memory.
+ *                            other addresses lie outside memory (R1.8).
  *
  * What each answer leaves:
  *
- *   RIDGECROOK_DONE       The destination register is written (lanes that are off keep their half,
- *                         or become 0 with zeroing; bytes above the vector length become 0), the
- *                         flags of the lanes that are on are added to *control, except under
- *                         embedded rounding, and *pointer has moved by the length, modulo 2 to the
- *                         64. All else is as it was.
- *   RIDGECROOK_EXCEPTION  A lane that is on raised an exception whose mask bit is 0; embedded
- *                         rounding counts all as masked. The flags of all lanes that are on are
- *                         added to *control. All else is as it was. Flags that *control had before
- *                         cause nothing.
- *   every other number    All is as it was.
+ *   RIDGECROOK_DONE       The destination register is written: lanes that are off keep their half,
+ *                         or become 0 with zeroing; what lies above the vector becomes 0 (R5.9).
+ *                         The flags that lanes that are on raise are set in *control, except under
+ *                         embedded rounding (R7.2, R7.5). *pointer has grown by the length, and
+ *                         wraps at 2 to the 64 (R4.15). All else is as it was.
+ *   RIDGECROOK_EXCEPTION  A lane that is on raised an exception whose mask bit is 0 (R7.3);
+ *                         embedded rounding has all masked. The flags that lanes that are on raise
+ *                         are set in *control, also those of masked exceptions (R7.4; a processor
+ *                         sets fewer in two cases, R7.6). All else is as it was. Flags that
+ *                         *control had before count for nothing.
+ *   every other number    All is as it was (R4.16).
  *
- * If an instruction gives cause for several answers, the first of these is given: 1; 2; no bytes
- * (3); byte 0 (4); fewer than six bytes (3); byte 1 bit 3 set or byte 2 bit 2 clear (5); not in the
- * list above (4); length bits 11 without embedded rounding, zeroing without a mask, or VSQRTPH with
- * a first source (5); missing SIB or displacement bytes (3); 6; 7; 8.
+ * If there is cause for several answers, the first in this order is given (R4.3 to R4.14):
  *
- * The pointers. `vectors`, `masks`, `control` and `pointer` are written: what one of them points
- * to, at its whole length, may overlap nothing else that is lent to the call. `general`, `code` and
- * `memory` are only read and may overlap one another, but none of those four. `code` may be null
- * where code_length is 0, and `memory` where memory_length is 0; no other pointer may be null.
- * `masks` points to RIDGECROOK_MASKS numbers and `general` to RIDGECROOK_GENERAL, aligned as
- * uint64_t is; bytes need no alignment.
+ *    1  the length of the vector file
+ *    2  the control word
+ *    3  no code at all
+ *    4  another first byte than 0x62
+ *    3  less than six bytes
+ *    5  a fixed bit of the prefix is wrong: 1 in bit 3 of byte 1, or 0 in bit 2 of byte 2
+ *    4  an instruction that is not named above
+ *    5  length bits 3 without embedded rounding, zeroing without a mask, or VSQRTPH with bits for a
+ *       first source
+ *    3  the SIB byte or a byte of the displacement is not there
+ *    6  more than 15 bytes
+ *    7  a byte outside memory is needed
+ *    8  an unmasked exception
+ *
+ * The pointers (R8.4) are all that is left to the caller: the proof covers every value of every
+ * argument, but cannot see whether a pointer is good for its length. `vectors`, `masks`, `control`
+ * and `pointer` are written: what one of them points to, at its whole length, may overlap nothing
+ * else that is lent to the call. `general`, `code` and `memory` are only read and may overlap one
+ * another, but none of those four. `code` may be null where code_length is 0, and `memory` where
+ * memory_length is 0; no other pointer may be null. `masks` points to RIDGECROOK_MASKS numbers and
+ * `general` to RIDGECROOK_GENERAL. What points to uint32_t or uint64_t is aligned as these are;
+ * bytes need no alignment.
  */
 ridgecrook_answer ridgecrook_step(uint8_t *vectors, size_t vectors_length, uint64_t masks[8],
                                   const uint64_t general[16], uint32_t *control, uint64_t *pointer,
@@ -187,8 +205,8 @@ ridgecrook_answer ridgecrook_step(uint8_t *vectors, size_t vectors_length, uint6
                                   size_t memory_length);
 
 /*
- * The saved form of a state, RIDGECROOK_SAVED_SIZE bytes. Its numbers are big-endian; the vector
- * file stands in it as a step takes it.
+ * The saved form of a state, RIDGECROOK_SAVED_SIZE bytes (R9.1, R9.2). Its numbers have their
+ * highest byte first; the vector file stands in it as a step takes it.
  *
  *   at    bytes
  *      0      4  the number of bytes that follow these four: 2,253
@@ -202,13 +220,13 @@ ridgecrook_answer ridgecrook_step(uint8_t *vectors, size_t vectors_length, uint6
 #define RIDGECROOK_SAVED_SIZE 2257
 
 /*
- * Writes the saved form of a state.
+ * Writes the saved form of a state (R9.4).
  *
  *   vectors, vectors_length  The vector file; only read. A length other than
  *                            RIDGECROOK_VECTORS_SIZE is refused.
  *   masks, general           The registers; only read.
- *   control, pointer         The control word and the pointer. A control word with a bit above 15
- *                            is refused.
+ *   control, pointer         The control word and the pointer. A control word above 0xFFFF is
+ *                            refused.
  *   target, target_length    Where the saved form is written. A length other than
  *                            RIDGECROOK_SAVED_SIZE is refused, a greater one too.
  *
@@ -216,23 +234,23 @@ ridgecrook_answer ridgecrook_step(uint8_t *vectors, size_t vectors_length, uint6
  *
  *   RIDGECROOK_BAD_SIZE     vectors_length is not RIDGECROOK_VECTORS_SIZE
  *   RIDGECROOK_BAD_SIZE     target_length is not RIDGECROOK_SAVED_SIZE
- *   RIDGECROOK_BAD_CONTROL  the control word has a bit above 15
+ *   RIDGECROOK_BAD_CONTROL  the control word is above 0xFFFF
  *   RIDGECROOK_DONE         every byte of the target is written
  *
- * A refusal leaves the target as it was. What is only read is never changed.
+ * A refusal leaves the target as it was (R9.6). What is only read is never changed.
  *
- * The pointers. `target`, at its whole length, may overlap nothing else that is lent to the call;
- * `vectors`, `masks` and `general` are only read and may overlap one another. No pointer may be
- * null. `masks` points to RIDGECROOK_MASKS numbers and `general` to RIDGECROOK_GENERAL, aligned as
- * uint64_t is; bytes need no alignment.
+ * The pointers (R8.4). `target`, at its whole length, may overlap nothing else that is lent to the
+ * call; `vectors`, `masks` and `general` are only read and may overlap one another. No pointer may
+ * be null. `masks` points to RIDGECROOK_MASKS numbers and `general` to RIDGECROOK_GENERAL, aligned
+ * as uint64_t is; bytes need no alignment.
  */
 uint32_t ridgecrook_save(const uint8_t *vectors, size_t vectors_length, const uint64_t masks[8],
                          const uint64_t general[16], uint32_t control, uint64_t pointer,
                          uint8_t *target, size_t target_length);
 
 /*
- * Reads a state from its saved form. Loading what was saved gives the same state, and saving what
- * was loaded gives the same bytes.
+ * Reads a state from its saved form (R9.5). A state that is saved and loaded comes back unchanged,
+ * and so do bytes that are loaded and saved (R9.7).
  *
  *   saved, saved_length      The saved form and nothing behind it; only read.
  *   vectors, vectors_length  Where the vector file goes. A length other than
@@ -246,16 +264,16 @@ uint32_t ridgecrook_save(const uint8_t *vectors, size_t vectors_length, const ui
  *   RIDGECROOK_BAD_SIZE     vectors_length is not RIDGECROOK_VECTORS_SIZE
  *   RIDGECROOK_BAD_SAVED    saved_length is not RIDGECROOK_SAVED_SIZE, the length field is not
  *                           2,253, or the version is not 1
- *   RIDGECROOK_BAD_CONTROL  the saved control word has a bit above 15
+ *   RIDGECROOK_BAD_CONTROL  the saved control word is above 0xFFFF
  *   RIDGECROOK_DONE         vectors, masks, general, *control and *pointer are all written
  *
- * A refusal leaves all of these as they were: the state is the one that was given.
+ * A refusal leaves all of these as they were (R9.6).
  *
- * The pointers. `vectors`, `masks`, `general`, `control` and `pointer` are written: what one of
- * them points to, at its whole length, may overlap nothing else that is lent to the call. `saved`
- * may be null where saved_length is 0, which is refused; no other pointer may be null. `masks`
- * points to RIDGECROOK_MASKS numbers and `general` to RIDGECROOK_GENERAL, aligned as uint64_t is;
- * bytes need no alignment.
+ * The pointers (R8.4). `vectors`, `masks`, `general`, `control` and `pointer` are written: what one
+ * of them points to, at its whole length, may overlap nothing else that is lent to the call.
+ * `saved` may be null where saved_length is 0, which is refused; no other pointer may be null.
+ * `masks` points to RIDGECROOK_MASKS numbers and `general` to RIDGECROOK_GENERAL. What points to
+ * uint32_t or uint64_t is aligned as these are; bytes need no alignment.
  */
 uint32_t ridgecrook_load(const uint8_t *saved, size_t saved_length, uint8_t *vectors,
                          size_t vectors_length, uint64_t masks[8], uint64_t general[16],

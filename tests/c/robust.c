@@ -1,8 +1,8 @@
 /*
  * Steps, saves and loads on random bytes and states, with every lent buffer against the end or the
- * beginning of pages that may be touched: one byte beyond, and the program stops. After each call
- * it is checked that the answer is one that the header names and that a refusal left all as it was;
- * what a step is to compute, other tests know.
+ * beginning of pages that may be touched (R8.4): one byte beyond, and the program stops. After each
+ * call it is checked that the answer is one that the header names and that a refusal left all as it
+ * was; what a step is to compute, other tests know.
  *
  *   robust [STEPS [SEED]]     1,000,000 steps if nothing is said
  */

@@ -1,6 +1,7 @@
 /*
- * The saved form as a C engineer uses it: its bytes, both round trips, each refusal and what it
- * leaves, null pointers with length 0, sizes above 2 to the 32, and the ends of all that is lent.
+ * The saved form as a C engineer uses it (R9.1 to R9.7): its bytes, both round trips, each refusal
+ * and what it leaves, and what C must keep (R8.4): null pointers with length 0, sizes above 2 to
+ * the 32, and the ends of all that is lent.
  */
 #include "machine.h" /* first, since it chooses what the system's headers declare */
 
@@ -69,8 +70,8 @@ static void check_round_trips(void) {
         kept &= save(&other, again, sizeof again) == RIDGECROOK_DONE;
         kept &= memcmp(saved, again, sizeof saved) == 0;
     }
-    check(loaded, "loading what was saved gives the same state");
-    check(kept, "saving what was loaded gives the same bytes");
+    check(loaded, "a state that is saved and loaded is as it was");
+    check(kept, "bytes that are loaded and saved are as they were");
 }
 
 /* Refused saves: the target and the state stay. */

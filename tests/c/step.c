@@ -1,6 +1,6 @@
 /*
- * Steps as a C engineer calls them: the header, the archive, the rows of the papers, null pointers
- * with length 0, and the ends of everything that is lent.
+ * Steps as a C engineer calls them: the header, the archive, examples of docs/RULES.md, and what C
+ * must keep (R8.4): null pointers with length 0, and the ends of everything that is lent.
  */
 #include "machine.h" /* first, since it chooses what the system's headers declare */
 
@@ -51,7 +51,7 @@ static const uint8_t ADD_DISP8[] = {0x62, 0xF5, 0x74, 0xC9, 0x58, 0x40, 0x01};
 static const uint8_t ADD_BROADCAST[] = {0x62, 0xF5, 0x74, 0xD9, 0x58, 0x40, 0x01};
 static const uint8_t MULTIPLY[] = {0x62, 0xF5, 0x74, 0x48, 0x59, 0xC2};
 
-/* Every answer that can be had, with what it leaves: all as before, if nothing else is said. */
+/* Every answer that can be had, with what it leaves: everything, if nothing else is said. */
 static void check_refusals(void) {
     static const struct {
         uint8_t code[7];
@@ -97,7 +97,7 @@ static void check_sizes(void) {
     }
 }
 
-/* 62 F5 74 48 58 C2, and 62 F5 74 38 58 C2: 32 lanes in mode 1, nothing flagged. */
+/* Registers, without embedded rounding and with it (R7.5). */
 static void check_registers(void) {
     machine m, before;
     blank(&m);
@@ -108,7 +108,7 @@ static void check_registers(void) {
     before = m;
     check(is(step(&m, ADD, sizeof ADD, NULL, 0), RIDGECROOK_DONE, 6), "an addition is done");
     check(get(&m, 0, 0) == 0x0000 && get(&m, 0, 31) == 0x4200, "sums in the first and last lane");
-    check(m.pointer == 5, "the pointer moves by the length, modulo 2 to the 64");
+    check(m.pointer == 5, "the pointer has gone on by 6, past 2 to the 64");
     check(m.control == 0x1F80, "an exact sum has no flag");
     before.pointer = m.pointer;
     memcpy(before.vectors, m.vectors, RIDGECROOK_REGISTER_SIZE);
@@ -121,7 +121,7 @@ static void check_registers(void) {
     check(m.control == 0, "embedded rounding flags nothing");
 }
 
-/* 0400*3800 with UE unmasked. */
+/* R6.23: 0400*3800 with UE unmasked. */
 static void check_exception(void) {
     machine m, before;
     blank(&m);
@@ -137,7 +137,7 @@ static void check_exception(void) {
     check(same(&m, &before), "and all else is as before");
 }
 
-/* RAX+2 under broadcast, RAX+64 without; memory of 1 byte and of 2. */
+/* R3.13: RAX+2 under broadcast, RAX+64 without. R5.7: memory of 1 byte and of 2. */
 static void check_memory(void) {
     static const uint8_t memory[130] = {[4] = 0x00, [5] = 0x3C, [66] = 0x00, [67] = 0x40};
     machine m;
@@ -156,7 +156,7 @@ static void check_memory(void) {
     check(is(step(&m, ADD_MEMORY, 6, memory, 1), RIDGECROOK_DONE, 6), "1 byte, mask 0");
 }
 
-/* A null pointer with length 0 is common in C, and is not read. */
+/* R8.4: a null pointer with length 0 is common in C, and is not read. */
 static void check_null(void) {
     machine m, before;
     blank(&m);

@@ -1,7 +1,7 @@
 //! Halves at which arithmetic goes wrong, of both signs.
 
 /// Numbers that stand for themselves: a half, one, two, three, thirds, an eleventh-bit neighbour
-/// of each, the operands of document 01's rows, the largest numbers, and the infinity.
+/// of each, operands of the examples (R12.1), the largest numbers, and the infinity.
 const SINGLE: [u16; 20] = [
     0x0000, 0x3555, 0x3556, 0x3955, 0x3956, 0x3AAB, 0x3DA8, 0x4200, 0x4201, 0x41FF, 0x4248, 0x4500,
     0x4BFF, 0x2010, 0x1FE0, 0x7BFD, 0x7BFE, 0x7BFF, 0x7800, 0x7C00,

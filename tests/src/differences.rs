@@ -1,6 +1,6 @@
-//! Where a processor does otherwise than document 01, and document 01 decides. Both differences are
-//! in the flags that answer 8 leaves, and each has a rule that says exactly what the processor
-//! leaves, from what document 01 says of the lanes. All other differences are faults.
+//! Where a processor does otherwise than the rules (R7.6). Both differences are in the flags that
+//! answer 8 leaves, and for each it is said exactly what the processor leaves, from what the rules
+//! say of the lanes. All other differences are faults.
 
 use crate::case::{Case, DE, IE, OE, PE, ZE};
 use crate::machine::{Step, StepOutcome};
@@ -10,8 +10,8 @@ use crate::second::step::{lane_cases, unmasked};
 
 #[derive(Clone, Copy, Debug, PartialEq, Eq)]
 pub enum Difference {
-    /// Where IE, DE or ZE is raised and unmasked, no lane goes on to round: OE, UE and PE are not
-    /// added (M-103).
+    /// Where IE, DE or ZE is raised and unmasked, a processor stops before it rounds: OE, UE and PE
+    /// are not set.
     EarlyStage,
     /// Where OE is unmasked and no early stage stops it, an overflow has PE only if its result has
     /// more than 11 significant bits, whatever the exponent.
@@ -31,16 +31,16 @@ impl Difference {
 
 const EARLY: u8 = IE | DE | ZE;
 
-/// What a processor leaves of a step, and the name of the difference from document 01's outcome,
+/// What a processor leaves of a step, and the name of the difference from the outcome by the rules,
 /// which the caller has, if there is one.
-pub fn on_a_processor(step: &Step, document: &StepOutcome) -> (StepOutcome, Option<Difference>) {
-    let mut expected = document.clone();
-    if document.answer.number != 8 {
+pub fn on_a_processor(step: &Step, by_rules: &StepOutcome) -> (StepOutcome, Option<Difference>) {
+    let mut expected = by_rules.clone();
+    if by_rules.answer.number != 8 {
         return (expected, None);
     }
     let (flags, rule) = processor_flags(step);
     expected.after.machine.control = step.machine.control | u32::from(flags);
-    let differs = expected != *document;
+    let differs = expected != *by_rules;
     (expected, rule.filter(|_| differs))
 }
 
@@ -77,7 +77,7 @@ fn with_overflow_unmasked(case: &Case) -> u8 {
 mod tests {
     use super::*;
 
-    /// The two cases of docs/DECISIONS.md: the line, document 01's control word, the processor's.
+    /// The two examples of R7.6: the line, the control word by the rules, the processor's.
     const CASES: [(&str, u32, u32, Difference); 2] = [
         (
             "step code=62F574495EC2 control=00001D80 k1=3 z1=3C00x2 z2=0000,4200",
@@ -95,12 +95,12 @@ mod tests {
 
     #[test]
     fn each_rule_gives_its_known_case() {
-        for (line, by_document, by_processor, difference) in CASES {
+        for (line, control, on_processor, difference) in CASES {
             let step: Step = line.parse().unwrap();
-            let document = second::step(&step);
-            assert_eq!(document.after.machine.control, by_document, "{line}");
-            let (processor, name) = on_a_processor(&step, &document);
-            assert_eq!(processor.after.machine.control, by_processor, "{line}");
+            let by_rules = second::step(&step);
+            assert_eq!(by_rules.after.machine.control, control, "{line}");
+            let (processor, name) = on_a_processor(&step, &by_rules);
+            assert_eq!(processor.after.machine.control, on_processor, "{line}");
             assert_eq!(name, Some(difference), "{line}");
         }
     }
@@ -115,8 +115,8 @@ mod tests {
             "step code=62F574495EC2 control=00000F80 k1=1 z1=3C00 z2=4200",
         ] {
             let step: Step = line.parse().unwrap();
-            let document = second::step(&step);
-            assert_eq!(on_a_processor(&step, &document), (document, None), "{line}");
+            let by_rules = second::step(&step);
+            assert_eq!(on_a_processor(&step, &by_rules), (by_rules, None), "{line}");
         }
     }
 }

@@ -48,7 +48,7 @@ impl Processor {
         })
     }
 
-    /// What the processor answers to a step and leaves of it, in document 01's numbers: 0; 5 for an
+    /// What the processor answers to a step and leaves of it, in the numbers of R4.1: 0; 5 for an
     /// invalid opcode; 7 for a fault on memory; 8 for a numeric exception. The step's bytes are to
     /// be an instruction of the list, or a reserved encoding of one, of `length` bytes. None where
     /// the pointer is so far away that a relative address cannot be placed.

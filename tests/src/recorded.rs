@@ -18,7 +18,7 @@ pub fn path() -> PathBuf {
     PathBuf::from(concat!(env!("CARGO_MANIFEST_DIR"), "/data/processor.txt"))
 }
 
-/// The rows of document 01 ('Lanes and bytes to try') and the two cases of docs/DECISIONS.md.
+/// Examples of docs/RULES.md that a processor can be given, those of R7.6 among them.
 const ROWS: [&str; 30] = [
     "step code=62F5744958C2 control=00001F80 k1=1 z1=3C00 z2=BC00",
     "step code=62F5744958C2 control=00003F80 k1=1 z1=3C00 z2=BC00",
@@ -75,20 +75,20 @@ pub fn write(processor: &mut Processor, seed: u64) {
     println!("{CASES} cases, {} bytes", text.len());
 }
 
-/// One line of the file against an outcome of document 01's machine: the name of the difference, if
-/// there is one, or both texts where they do not go together.
+/// One line of the file against what the library, or the second program, answers: the name of the
+/// difference, if there is one, or both texts where they do not go together.
 pub fn compare(line: &str, answer: fn(&Step) -> StepOutcome) -> Result<Option<Difference>, String> {
     let step: Step = line.parse().map_err(|error| format!("{line}: {error}"))?;
     let recorded = line.split_once("=> ").map_or("", |(_, text)| text);
     let outcome = answer(&step);
-    // The rules are about document 01's outcome, so this has to be it.
-    let document = second::step(&step);
-    let (expected, name) = on_a_processor(&step, &document);
-    if outcome == document && shown_outcome(&step, &expected) == recorded {
+    // A difference is one from the outcome by the rules, so this has to be it.
+    let by_rules = second::step(&step);
+    let (expected, name) = on_a_processor(&step, &by_rules);
+    if outcome == by_rules && shown_outcome(&step, &expected) == recorded {
         return Ok(name);
     }
-    let [outcome, document] = [outcome, document].map(|outcome| shown_outcome(&step, &outcome));
-    Err(format!("{line} found {outcome} document 01 {document}"))
+    let [outcome, by_rules] = [outcome, by_rules].map(|outcome| shown_outcome(&step, &outcome));
+    Err(format!("{line} found {outcome} by the rules {by_rules}"))
 }
 
 /// Steps with one to three lanes that have something to do, so that a line is short.

@@ -10,9 +10,9 @@ use crate::second;
 use crate::second::encoding::{decode, Instruction, Second, Source, LIST};
 use crate::second::step::{first_address, is_on};
 
-/// How long the bytes are that the processor is to run; none where it cannot run the step. An
-/// encoding that document 01 reserves (5) is one that the processor refuses, but that APX gives the
-/// two bits that are tested first a meaning; what is not in the list is never run. An address that
+/// How long the bytes are that the processor is to run; none where it cannot run the step. A
+/// reserved encoding (R4.8, R4.10) is one that the processor refuses, but that APX gives the two
+/// bits of R4.8 a meaning; what is not in the list is never run. An address that
 /// is relative to a pointer far from 0 cannot be placed.
 pub fn runnable(step: &Step, extended_prefix: bool) -> Option<usize> {
     let machine = &step.machine;
@@ -46,9 +46,9 @@ pub fn verdict(step: &Step, library: &StepOutcome, processor: &StepOutcome) -> V
     if library.answer.number != 8 {
         return agreement(library == processor);
     }
-    let document = second::step(step);
-    let (expected, name) = on_a_processor(step, &document);
-    match agreement(*library == document && *processor == expected) {
+    let by_rules = second::step(step);
+    let (expected, name) = on_a_processor(step, &by_rules);
+    match agreement(*library == by_rules && *processor == expected) {
         Verdict::Agrees => name.map_or(Verdict::Agrees, Verdict::Known),
         differs => differs,
     }

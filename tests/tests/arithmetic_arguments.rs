@@ -1,4 +1,4 @@
-//! Mode numbers that do not exist, and every way to say yes.
+//! Mode numbers that do not exist (R8.2), and every way to say yes (R8.3).
 
 use ridgecrook_tests::case::{Case, Operation, Outcome, UE};
 use ridgecrook_tests::compare::{failure, Comparison};

@@ -1,4 +1,5 @@
-//! The command as a process, its standard output held against the second program's.
+//! The command as a process (R10.1 to R10.7), its standard output held against the second
+//! program's.
 //!
 //! `RIDGECROOK_COMMAND` names the program (otherwise `target/bin/run`), `RIDGECROOK_SEED` sets the
 //! seed, `RIDGECROOK_INPUTS` the number of random inputs. An input whose output differs is kept as
@@ -19,7 +20,7 @@ use std::thread;
 
 const SEED: u64 = 20_240_303;
 
-/// The whole case of document 01.
+/// zmm0 = zmm1 + zmm2.
 const ADD: [u8; 6] = [0x62, 0xF5, 0x74, 0x48, 0x58, 0xC2];
 /// zmm0{k1} = zmm1 + what stands at RAX.
 const ADD_MEMORY: [u8; 6] = [0x62, 0xF5, 0x74, 0x49, 0x58, 0x00];
@@ -84,7 +85,7 @@ fn the_whole_case() {
     command.prints(0, &bytes, "0 0 00001f80\nstop 6\n");
 }
 
-/// Where it ends, from a blank state: code, memory, output.
+/// R10.5: where it ends, from a blank state: code, memory, output.
 #[test]
 fn ends_and_refusals() {
     let command = Command::of("ends and refusals");

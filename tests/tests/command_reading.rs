@@ -1,5 +1,5 @@
-//! How the command reads its standard input: only input that was read to its end is run; if a read
-//! fails, one line on standard error says so.
+//! How the command reads its standard input (R10.7): only input that was read to its end is run; if
+//! a read fails, one line on standard error says so.
 
 use ridgecrook_tests::command_input::input;
 use ridgecrook_tests::machine::Machine;

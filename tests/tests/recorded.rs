@@ -1,5 +1,5 @@
 //! The library and the second program against what a processor said (tests/data/processor.txt), on
-//! every machine. The known differences are told apart by name (`differences.rs`).
+//! every machine. The known differences (R7.6) are told apart by name (`differences.rs`).
 
 use ridgecrook_tests::compare::log;
 use ridgecrook_tests::differences::Difference;

@@ -1,6 +1,6 @@
-//! The saved form by the library and the second program: random states, every size, every damaged
-//! byte of the header, the order of the refusals, and both round trips. All that is lent to a call
-//! is compared after it, so a refusal that changes anything differs.
+//! The saved form (R9.1 to R9.7) by the library and the second program: random states, every size,
+//! every damaged byte of the header, the order of the refusals, and both round trips. All that is
+//! lent to a call is compared after it, so a refusal that changes anything differs.
 //!
 //! `RIDGECROOK_SEED` sets the seed, `RIDGECROOK_STATES` the number of random states of each test.
 
@@ -226,15 +226,14 @@ const fn spoiled(name: &'static str, number: u32, spoil: fn(&mut Transfer)) -> C
     }
 }
 
-/// 'Saving checks in order the vector file's size, the target's size (both 1), control word (2).'
+/// The conditions of R9.4, in its order.
 const OF_A_SAVE: [Condition; 3] = [
     spoiled("vector file", 1, |save| save.machine.vectors.push(0)),
     spoiled("target", 1, |save| save.bytes.truncate(2256)),
     spoiled("control word", 2, |save| save.machine.control |= 1 << 16),
 ];
 
-/// 'Loading checks in order the size of the lent vector file (1), total size, length field and
-/// version (10), control word (2).'
+/// The conditions of R9.5, in its order.
 const OF_A_LOAD: [Condition; 5] = [
     spoiled("vector file", 1, |load| load.machine.vectors.truncate(2047)),
     spoiled("total size", 10, |load| load.bytes.push(0)),
@@ -281,7 +280,7 @@ fn the_first_of_any_refusals_is_answered() {
     }
 }
 
-/// 'Loading what was saved gives the same state', whatever stood where it goes.
+/// R9.7: save, then load, whatever stood where the state goes.
 #[test]
 fn what_was_saved_is_loaded() {
     let mut random = random();
@@ -295,7 +294,7 @@ fn what_was_saved_is_loaded() {
     }
 }
 
-/// 'saving what was loaded gives the same bytes'.
+/// R9.7: load, then save.
 #[test]
 fn what_was_loaded_is_saved() {
     let mut random = random();

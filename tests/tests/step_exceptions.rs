@@ -1,5 +1,6 @@
-//! Exceptions: lanes that raise every set of flags, under every set of masks, with flags left from
-//! before, in lanes that are on and lanes that are off, by control word and by embedded rounding.
+//! Exceptions (R7.1 to R7.5): lanes that raise every set of flags, under every set of masks, with
+//! flags left from before, in lanes that are on and lanes that are off, by control word and by
+//! embedded rounding.
 
 use ridgecrook_tests::assemble::Encoding;
 use ridgecrook_tests::case::{DE, IE, OE, PE, UE, ZE};
@@ -74,7 +75,7 @@ fn every_mixture_under_every_mask() {
     watched.finish(128 * 64 * 4, &[0, 8]);
 }
 
-/// Embedded rounding in the four modes masks and hides everything, whatever the control word says.
+/// R7.5: embedded rounding in the four modes masks everything, whatever the control word says.
 #[test]
 fn embedded_rounding_hides_every_exception() {
     for place in 0..64 * 4_u32 {

@@ -1,5 +1,5 @@
-//! Where operands stand: every register number, every addressing form, every edge of memory; and
-//! which lanes take part.
+//! Where operands stand: every register number (R3.6), every addressing form (R3.9 to R3.13), every
+//! edge of memory (R5.7); and which lanes take part (R5.1).
 
 use ridgecrook_tests::assemble::{Encoding, LANES_32, LANES_8};
 use ridgecrook_tests::coverage::Watched;

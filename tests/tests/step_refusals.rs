@@ -1,6 +1,7 @@
-//! Refusals: each alone, each before every later one, every cut, every opcode, map, prefix and W.
+//! Refusals (R4.2 to R4.14): each alone, each before every later one, every cut, every opcode, map,
+//! prefix and W.
 //!
-//! Answer 6 has no test of its own: no listed form is longer than 11 bytes, so no input gives it.
+//! Answer 6 has no test of its own: no instruction is longer than 11 bytes, so no input gives it.
 //! `step_random` fails if it is ever seen.
 
 use ridgecrook_tests::assemble::Encoding;
@@ -37,7 +38,7 @@ const fn spoiled(name: &'static str, number: u32, spoil: fn(&mut Step)) -> Condi
     }
 }
 
-/// In the order of document 01. Conditions between which it has no order stand in one group.
+/// In the order of R4.2, a group for each clause from R4.3 to R4.14 but for R4.12.
 const CONDITIONS: [&[Condition]; 11] = [
     &[
         spoiled("a vector file of 2,047 bytes", 1, |step| {
@@ -200,7 +201,7 @@ fn the_first_of_many_is_answered() {
     }
 }
 
-/// Every operand form, each with all its bytes, fewer, and more, which are not looked at.
+/// Every operand form, each with all its bytes, fewer, and more, which have no effect (R4.18).
 #[test]
 fn every_cut() {
     let mut watched = Watched::of(library::step_outcome, "every cut");

@@ -1,6 +1,7 @@
 //! Steps that a person wrote, one row each, held against the second program and the library. A
 //! step is written as `step_line` prints it; behind it stand the answer's number and length and
-//! what the step changes, and nothing else may change.
+//! what the step changes, and nothing else may change. The examples of docs/RULES.md are in
+//! `rules.rs`.
 
 use ridgecrook_tests::machine::{Step, StepOutcome};
 use ridgecrook_tests::step_line::shown_outcome;
@@ -8,52 +9,7 @@ use ridgecrook_tests::{library, second};
 
 type Row = (&'static str, &'static str);
 
-/// 01, 'Lanes and bytes to try' and 'Saved state and the command': the rows that speak of steps.
-const ROWS_OF_THE_PAPER: &[Row] = &[
-    // 62 F5 74 D9 58 40 01 reads at RAX+2 (broadcast, k1, zeroing); with C9 for D9, at RAX+64.
-    (
-        "code=62F574D9584001 k1=5 r0=1 z0=7777x32 z1=3C00,4000,4200 memory=000000003C",
-        "0 7 pointer=7 z0=4000,0000,4400",
-    ),
-    (
-        "code=62F574D9584001 k1=5 r0=1 z1=3C00,4000,4200 memory=00000000",
-        "7 0",
-    ),
-    (
-        "code=62F574C9584001 k1=1 r0=FFFFFFFFFFFFFFC2 z0=7777x32 z1=3C00,4000 memory=00000040",
-        "0 7 pointer=7 z0=4200",
-    ),
-    (
-        "code=62F574C9584001 k1=1 r0=0 z1=3C00 memory=00000000",
-        "7 0",
-    ),
-    // 62 F5 74 38 58 C2 adds 32 lanes in mode 1 and flags nothing: the exceptions are unmasked.
-    (
-        "code=62F5743858C2 control=00000000 z1=3C00x31,7BFF z2=0001,BC00x30,7BFF",
-        "0 6 pointer=6 z0=3C00,8000x30,7BFF",
-    ),
-    // 62 F5 74 C8 58 C2 is 5.
-    ("code=62F574C858C2 z1=3C00 z2=3C00", "5 0"),
-    // Memory of 1 byte with mask 0: done. Mask 1, address 0: 7. Length 2: done.
-    (
-        "code=62F574495800 z0=1234x32 z1=3C00 memory=00",
-        "0 6 pointer=6",
-    ),
-    ("code=62F574495800 k1=1 z1=3C00 memory=00", "7 0"),
-    (
-        "code=62F574495800 k1=1 z1=3C00 memory=003C",
-        "0 6 pointer=6 z0=4000",
-    ),
-    // 0400*3800 with UE unmasked: answer 8 and UE. The destination stays.
-    (
-        "code=62F5744859C2 control=00001780 z0=1111x32 z1=0400 z2=3800",
-        "8 0 control=00001790",
-    ),
-    // The whole case of the command.
-    ("code=62F5744858C2", "0 6 pointer=6"),
-];
-
-/// 01, 'Lanes and bytes to try': the starred rows, each as lane 0 of a step.
+/// R12.1: the examples marked *, each as lane 0 of a step.
 const STARRED: &[Row] = &[
     (
         "code=62F5740958C2 k1=1 z0=7777 z1=3C00 z2=BC00",
@@ -129,25 +85,25 @@ const STARRED: &[Row] = &[
     ),
 ];
 
-/// The order of the fused operands, which the numbers 2, 3 and 10 in destination, first and second
-/// source tell apart.
+/// R2.1: the order of the fused operands, which the numbers 2, 3 and 10 in destination, first and
+/// second source tell apart.
 const FUSED: &[Row] = &[
-    // 132 dest*src3+src2 = 2*10+3
+    // 2*10+3
     (
         "code=62F6754898C2 z0=4000x32 z1=4200x32 z2=4900x32",
         "0 6 pointer=6 z0=4DC0x32",
     ),
-    // 213 src2*dest+src3 = 3*2+10
+    // 3*2+10
     (
         "code=62F67548A8C2 z0=4000x32 z1=4200x32 z2=4900x32",
         "0 6 pointer=6 z0=4C00x32",
     ),
-    // 231 src2*src3+dest = 3*10+2
+    // 3*10+2
     (
         "code=62F67548B8C2 z0=4000x32 z1=4200x32 z2=4900x32",
         "0 6 pointer=6 z0=5000x32",
     ),
-    // The first NaN in the order multiplicand, multiplier, addend.
+    // R6.6: the first NaN.
     (
         "code=62F6750898C2 z0=7E10x8 z1=7E11x8 z2=7E12x8",
         "0 6 pointer=6",
@@ -176,7 +132,7 @@ const FUSED: &[Row] = &[
 
 /// Mistakes that were made or nearly made, each under what it teaches.
 const TRAPS: &[Row] = &[
-    // Bytes above the vector length become 0 even when every lane is off.
+    // R5.9: what is above the vector becomes 0 even when every lane is off.
     (
         "code=62F5740958C2 z0=1234x32 z1=3C00x32",
         "0 6 pointer=6 z0=1234x8",
@@ -185,49 +141,49 @@ const TRAPS: &[Row] = &[
         "code=62F5742958C2 k1=1 z0=1234x32 z1=3C00x32",
         "0 6 pointer=6 z0=3C00,1234x15",
     ),
-    // A lane that is off raises no flag; z makes it 0.
+    // R5.2, R5.9: a lane that is off raises no flag; z makes it 0.
     (
         "code=62F574CA5EC2 control=00000000 k2=80000002 z0=1234x32 z1=3C00x32 \
          z2=0000,3C00,0000x29,4000",
         "0 6 pointer=6 z0=0000,3C00,0000x29,3800",
     ),
-    // k0 is no mask: aaa 000 means every lane.
+    // R5.1: k0 is no mask.
     (
         "code=62F5740858C2 k0=1 z1=3C00x8",
         "0 6 pointer=6 z0=3C00x8",
     ),
-    // Bits of a mask above the lanes switch nothing on, and no bit of another register does.
+    // R5.1: bits of a mask above the lanes switch nothing on, and no bit of another register does.
     (
         "code=62F5740958C2 k0=FF k1=FFFFFFFFFFFFFF00 k2=FF z0=1234x8 z1=3C00x32",
         "0 6 pointer=6",
     ),
-    // A broadcast word is needed only when a lane is on, and one lane is enough.
+    // R5.6: the word of a broadcast is needed only if a lane is on, and one lane is enough.
     ("code=62F574595800 z0=1234x32", "0 6 pointer=6"),
     ("code=62F574595800 k1=80000000 z0=1234x32", "7 0"),
-    // Bits above the lanes need no broadcast word either.
+    // Bits above the lanes need none either.
     ("code=62F574195800 k1=FFFFFF00 z0=1234x8", "0 6 pointer=6"),
-    // Flags left from before cause nothing and stay.
+    // R7.2, R7.3: flags from before stay and count for nothing.
     (
         "code=62F5740858C2 control=0000003F z1=3C00x8",
         "0 6 pointer=6 z0=3C00x8",
     ),
-    // On 8 the flags of all lanes that are on are added, not those of lanes that are off: 1/0, 1/3,
-    // and 0/0 off, with only ZE unmasked.
+    // R7.4: with 8 the flags of every lane that is on are set, none of lanes that are off: 1/0,
+    // 1/3, and 0/0 off, with only ZE unmasked.
     (
         "code=62F574495EC2 control=00001D80 k1=3 z0=1111x32 z1=3C00x2 z2=0000,4200",
         "8 0 control=00001DA4",
     ),
-    // OE always comes with PE: E200*7800 overflows with OE unmasked.
+    // R6.20: OE always comes with PE. E200*7800 overflows with OE unmasked.
     (
         "code=62F5744959C2 control=00001B80 k1=1 z1=E200 z2=7800",
         "8 0 control=00001BA8",
     ),
-    // Embedded rounding counts UE as masked, and records no flag: 0400*3800.
+    // R7.5: embedded rounding has UE masked, and sets no flag: 0400*3800.
     (
         "code=62F5741859C2 control=00000000 z1=0400 z2=3800",
         "0 6 pointer=6 z0=0200",
     ),
-    // Its mode is in the length bits, not the control word: 5/3 and -5/3 tell all four apart.
+    // R3.8: its mode is in the length bits, not the control word: 5/3 and -5/3 tell all four apart.
     (
         "code=62F574185EC2 control=00006000 z1=4500,C500 z2=4200x32",
         "0 6 pointer=6 z0=3EAB,BEAB",
@@ -244,7 +200,7 @@ const TRAPS: &[Row] = &[
         "code=62F574785EC2 control=00004000 z1=4500,C500 z2=4200x32",
         "0 6 pointer=6 z0=3EAA,BEAA",
     ),
-    // Broadcast is no embedded rounding: mode and masks are the control word's.
+    // R3.8: broadcast is no embedded rounding: mode and masks are the control word's.
     (
         "code=62F574385E00 z1=4500,C500 memory=0042",
         "0 6 control=00001FA0 pointer=6 z0=3EAB,BEAB",
@@ -253,22 +209,22 @@ const TRAPS: &[Row] = &[
         "code=62F574385E00 control=00001D80 z0=1111x32 z1=3C00x32 memory=0000",
         "8 0 control=00001D84",
     ),
-    // DAZ and FZ do not act on halves.
+    // R1.6: DAZ and FZ change nothing.
     (
         "code=62F5740858C2 control=00009FC0 z1=0001 z2=0001",
         "0 6 control=00009FC2 pointer=6 z0=0002",
     ),
-    // All sources are read before the destination is written; it may be each of them.
+    // R5.8: the destination may be each of the sources.
     (
         "code=62F57C4858C0 z0=3C00,4000",
         "0 6 pointer=6 z0=4000,4400",
     ),
-    // 7 leaves everything, also what a lane inside memory would have raised.
+    // R4.16: 7 leaves everything, also what a lane inside memory would have raised.
     (
         "code=62F574085E00 control=00000000 z0=1234x32 z1=3C00x8 memory=0000",
         "7 0",
     ),
-    // A lane's address wraps: lane 0 is off at -2, lane 1 reads at 0.
+    // R5.5: a lane's address wraps: lane 0 is off at -2, lane 1 reads at 0.
     (
         "code=62F574095800 k1=2 r0=FFFFFFFFFFFFFFFE z1=0000,3C00 memory=003C",
         "0 6 pointer=6 z0=0000,4000",
@@ -277,7 +233,8 @@ const TRAPS: &[Row] = &[
 
 /// Where operands stand: k1 is 1 and the lane that is on adds 0 and 1.0.
 const PLACES: &[Row] = &[
-    // Relative to the next instruction, forward over 2 to the 64 and backward; B and X not read.
+    // R3.11, R5.4: relative to the next instruction, forward over 2 to the 64 and backward; neither
+    // B nor X counts.
     (
         "code=62F57409580506000000 pointer=FFFFFFFFFFFFFFF0 k1=1 memory=003C",
         "0 10 pointer=FFFFFFFFFFFFFFFA z0=3C00",
@@ -290,12 +247,12 @@ const PLACES: &[Row] = &[
         "code=62F574095805F6FFFFFF pointer=1 k1=1 memory=AA003C",
         "0 10 pointer=B z0=3C00",
     ),
-    // RBX+8*RCX
+    // R3.10: RBX+8*RCX
     (
         "code=62F574095804CB r1=FFFFFFFFFFFFFFFF r3=9 k1=1 memory=AA003C",
         "0 7 pointer=7 z0=3C00",
     ),
-    // No base: 2*RCX-2. B is not read.
+    // R3.11: no base, 2*RCX-2. B does not count.
     (
         "code=62F5740958044DFEFFFFFF r1=1 r5=77 r13=77 k1=1 memory=003C",
         "0 11 pointer=B z0=3C00",
@@ -309,7 +266,7 @@ const PLACES: &[Row] = &[
         "code=62F5740958042501000000 r4=77 r5=77 r13=77 k1=1 memory=AA003C",
         "0 11 pointer=B z0=3C00",
     ),
-    // RSP without an index; with X stored as zero, the same index bits mean R12.
+    // R3.10: RSP without an index; with X stored as zero, the same index bits mean R12.
     (
         "code=62F57409580424 r4=1 r12=1 k1=1 memory=AA003C00BC",
         "0 7 pointer=7 z0=3C00",
@@ -324,7 +281,7 @@ const PLACES: &[Row] = &[
         "0 7 pointer=7 z0=3C00",
     ),
     ("code=62D574095804 r12=0 k1=1 memory=003C", "3 0"),
-    // [RBP] and [R13] have a displacement, of 8 bits times N or of 32.
+    // R3.12, R3.13: [RBP] and [R13] have a displacement, of one byte times N or of four.
     (
         "code=62F574095845FF r5=11 k1=1 memory=AA003C",
         "0 7 pointer=7 z0=3C00",
@@ -345,12 +302,12 @@ const PLACES: &[Row] = &[
         "code=62F574095885FFFFFFFF r5=2 k1=1 memory=AA003C",
         "0 10 pointer=A z0=3C00",
     ),
-    // X is not read without a SIB byte.
+    // R3.10: without a SIB byte X does not count.
     (
         "code=62B574095800 r0=1 r8=77 k1=1 memory=AA003C",
         "0 6 pointer=6 z0=3C00",
     ),
-    // R' R reg, V' vvvv and X B rm, together and one bit at a time.
+    // R3.6: R' R reg, V' vvvv and X B rm, together and one bit at a time.
     ("code=6205040058CF z31=3C00x32", "0 6 pointer=6 z25=4000x8"),
     ("code=62B5740858C2 z18=3C00", "0 6 pointer=6 z0=3C00"),
     ("code=62D5740858C2 z10=3C00", "0 6 pointer=6 z0=3C00"),
@@ -358,7 +315,7 @@ const PLACES: &[Row] = &[
     ("code=62E5740858C2 z2=3C00", "0 6 pointer=6 z16=3C00"),
     ("code=62F57C0058C2 z16=3C00", "0 6 pointer=6 z0=3C00"),
     ("code=62F53C0858C2 z8=3C00", "0 6 pointer=6 z0=3C00"),
-    // The root takes the r/m operand; its first-source bits are ones.
+    // R2.2, R4.10: the root takes its second source; its first-source bits are ones.
     (
         "code=62F57C4851C2 z0=7777x32 z2=4000x32",
         "0 6 control=00001FA0 pointer=6 z0=3DA8x32",
@@ -384,11 +341,6 @@ fn check(rows: &[Row]) {
     let by_second = failures(rows, "second program", second::step);
     let by_library = failures(rows, "library", library::step_outcome);
     assert_eq!((by_second, by_library), (0, 0), "second program, library");
-}
-
-#[test]
-fn rows_of_the_paper() {
-    check(ROWS_OF_THE_PAPER);
 }
 
 #[test]

@@ -1,4 +1,4 @@
--- Document 01, 'Saved state and the command': what the command prints for what it reads.
+-- docs/RULES.md, section 10: what the command prints for what it reads.
 use Prim.Native.Nat.{ℕ, zero, suc, _+_, _-_, _/_, _%_, _^_, _≤_}
 use mathlib.Core.Bool.{Bool, cond, _&&_}
 use mathlib.Core.List.{List, [], _∷_, _++_}
@@ -11,7 +11,7 @@ use Rattle.machine.specs.Step.{step}
 use Rattle.saved.specs.Form.{numberIn, savedSize}
 use Rattle.saved.specs.Saved.{load}
 
--- ---- numbers as text, in ASCII
+-- ---- R10.4: numbers as text, in ASCII
 
 -- in decimal, of at most n digits
 unfoldable pub decimalOf : ℕ → ℕ → List ℕ
@@ -26,32 +26,32 @@ decimal x = decimalOf 20 x
 abbrev pub hexDigit : ℕ → ℕ
 hexDigit x = cond (ltb x 10) (48 + x) (87 + x)
 
--- "eight lower-case hex digits", the highest first: all of a 32-bit number
+-- a 32-bit number in hex, the highest digit first
 unfoldable pub hex8 : ℕ → List ℕ
 hex8 x = table 8 (λ k. hexDigit (x / 16 ^ (7 - k) % 16))
 
+-- what stands between numbers, and behind a line
 abbrev pub space : List ℕ
 space = 32 ∷ []
 
 abbrev pub lineFeed : List ℕ
 lineFeed = 10 ∷ []
 
--- ---- lines
+-- ---- lines, in ASCII too
 
--- "prints `offset number control`"
+-- R10.4: the line of a step
 unfoldable pub stepLine : ℕ → ℕ → ℕ → List ℕ
 stepLine at number control = decimal at ++ space ++ decimal number ++ space ++ hex8 control ++ lineFeed
 
--- "prints `stop offset`": stop, with a space
+-- R10.5: the last line; it begins with `stop` and a space
 unfoldable pub stopLine : ℕ → List ℕ
 stopLine at = (115 ∷ 116 ∷ 111 ∷ 112 ∷ 32 ∷ []) ++ decimal at ++ lineFeed
 
--- "prints only `bad input`", as a line
+-- R10.2: `bad input`
 unfoldable pub badInput : List ℕ
 badInput = 98 ∷ 97 ∷ 100 ∷ 32 ∷ 105 ∷ 110 ∷ 112 ∷ 117 ∷ 116 ∷ lineFeed
 
--- ---- "Each step is given the code from the present offset on and prints `offset number control`, the last .. as it stands after. It ends
--- at the end of code or after a number other than 0 and prints `stop offset`."
+-- ---- R10.3, R10.5: steps
 
 -- from an offset on, with n steps at most; a step that is done moves the offset, so as many as there are bytes of code are enough
 -- (Runs.antt)
@@ -63,13 +63,13 @@ linesFrom (suc n) memory code s at =
     (stepLine at (o .answer .number) (o .state .control)
     ++ cond (eqb (o .answer .number) 0) (linesFrom n memory code (o .state) (at + o .answer .length)) (stopLine at))
 
--- ---- "reads from standard input a saved state, a 2-byte big-endian code length (at most 4,096), the code, then memory (at most 32,768
--- bytes)"
+-- ---- R10.1: the input
 
--- a state to load into
+-- R10.2: a state to load into
 unfoldable pub blank : State
 blank = record { vectors = table 2048 (λ k. 0); masks = table 8 (λ k. 0); general = table 16 (λ k. 0); control = 0; pointer = 0 }
 
+-- behind the saved form: how many bytes of code there are, the code, and memory to the end
 abbrev pub codeLength : List ℕ → ℕ
 codeLength input = numberIn input savedSize 2
 
@@ -79,7 +79,7 @@ codeOf input = take (codeLength input) (drop (savedSize + 2) input)
 abbrev pub memoryOf : List ℕ → List ℕ
 memoryOf input = drop (savedSize + 2 + codeLength input) input
 
--- the state that the steps begin with
+-- R10.3: the state that the steps begin with
 abbrev pub startOf : List ℕ → State
 startOf input = load (take savedSize input) blank .state
 
@@ -91,18 +91,18 @@ isLaidOut input =
     && leb (savedSize + 2 + codeLength input) (length input)
     && leb (length (memoryOf input)) 32768
 
--- and the saved state can be loaded. "Other input prints only `bad input`."
+-- R10.2: and the saved form loads
 unfoldable pub isGood : List ℕ → Bool
 isGood input = isLaidOut input && eqb (load (take savedSize input) blank .number) 0
 
--- all that is printed
+-- R10.2: all that is printed
 unfoldable pub printed : List ℕ → List ℕ
 printed input =
     cond (isGood input)
     (linesFrom (length (codeOf input)) (memoryOf input) (codeOf input) (startOf input) 0)
     badInput
 
--- ---- a buffer that a text is put into
+-- ---- R10.6: a buffer that a text is put into
 
 -- n bytes, a text, were put at the start of a buffer, and fit it; what stands behind them is as before
 pub record Wrote (text before : List ℕ) (n : ℕ) (after : List ℕ) : Type 0 where

@@ -1,4 +1,4 @@
--- What the functions that write promise: used by the code, nothing to believe.
+-- What the functions that write promise. No clause: used by the code, nothing to believe.
 use Prim.Native.Nat.{ℕ, _+_}
 use mathlib.Core.Path.{_≡_}
 use mathlib.Core.List.{List, _++_}

@@ -1,5 +1,5 @@
--- What is printed, said by the machine's own `run` and with no limit on the number of steps; and that it always fits. Proofs:
--- proofs/Runs.antt.
+-- docs/RULES.md, R10.3 to R10.6: what is printed, said by the machine's own `run` and with no limit on the number of steps; and that it
+-- always fits. Proofs: proofs/Runs.antt.
 use Prim.Native.Nat.{ℕ, _+_, _≤_, _<_}
 use mathlib.Core.Path.{_≡_}
 use mathlib.Core.Logic.{_≢_}
@@ -10,33 +10,34 @@ use Rattle.machine.specs.State.{State, Stepped}
 use Rattle.machine.specs.Step.{run}
 use Rattle.command.specs.Command.{stepLine, stopLine, codeOf, memoryOf, startOf, isGood, printed, room}
 
--- "Each step is given the code from the present offset on"
+-- R10.3: what each step is given, by its offset
 abbrev pub codesAt : List ℕ → List ℕ → List (List ℕ)
 codesAt code offsets = map (λ at. drop at code) offsets
 
--- a line for each step, "as it stands after"
+-- R10.4: a line for each step
 abbrev pub stepLines : List ℕ → List Stepped → List ℕ
 stepLines [] os = []
 stepLines (at ∷ ats) [] = []
 stepLines (at ∷ ats) (o ∷ os) = stepLine at (o .answer .number) (o .state .control) ++ stepLines ats os
 
--- From an offset on, steps at these offsets gave these outcomes, and the last offset is `end`.
+-- R10.3, R10.5: from an offset on, steps at these offsets gave these outcomes, and the last offset is `end`.
 pub data Course (code : List ℕ) : ℕ → List ℕ → List Stepped → ℕ → Type 0 where
-  -- "It ends at the end of code"
+  -- at the end of the code
   ended : {at : ℕ} → length code ≤ at → Course code at [] [] at
-  -- "or after a number other than 0"
+  -- with an answer other than 0
   stopped : {at : ℕ} {o : Stepped} → at < length code → o .answer .number ≢ 0 → Course code at (at ∷ []) (o ∷ []) at
   -- a step that is done moves the offset by the instruction's length
   done : {at : ℕ} {o : Stepped} {ats : List ℕ} {os : List Stepped} {end : ℕ} → at < length code → o .answer .number ≡ 0
       → Course code (at + o .answer .length) ats os end → Course code at (at ∷ ats) (o ∷ os) end
 
--- A text is the lines of a run from an offset on, and the last line.
+-- R10.6: a text is the lines of a run from an offset on, and the last line.
 pub record Runs (memory code : List ℕ) (s : State) (at : ℕ) (text : List ℕ) : Type 0 where
   pub offsets : List ℕ
   pub end : ℕ
   pub course : Course code at offsets (run memory s (codesAt code offsets)) end
   pub lines : text ≡ stepLines offsets (run memory s (codesAt code offsets)) ++ stopLine end
 
+-- R10.6: of every input.
 pub record Prints : Type 0 where
   -- what is printed for input that is good
   pub runs : (input : List ℕ) → isGood input ≡ true → Runs (memoryOf input) (codeOf input) (startOf input) 0 (printed input)

@@ -1,4 +1,4 @@
-// The command: a saved state, code and memory are read, steps are made, and their lines are put into the output.
+// The command (R10.1 to R10.6): a saved state, code and memory are read, steps are made, and their lines are put into the output.
 ghost use mathlib.Core.Path.{_≡_};
 ghost use Prim.Native.Nat.{_+_, _≤_, _<_};
 ghost use lib.ListN.{length, drop};
@@ -54,7 +54,7 @@ fn put_step(
     Turn { answer, next }
 }
 
-// Step after step, to the end of the code or a number other than 0.
+// R10.3, R10.5: step after step, to the end of the code or an answer other than 0.
 fn put_lines(
     vectors: &mut [u8],
     masks: &mut [u64; 8],
@@ -105,7 +105,7 @@ fn wide(x: u8) -> usize
     x as usize
 }
 
-// The code's length: two bytes behind the saved state, the higher first.
+// R10.1: the code's length, in two bytes behind the saved state.
 fn code_length(input: &[u8]) -> usize
     requires { ⌜ 2259 ≤ length (now input) ⌝ }
     ensures { λ r. ⌜ (r ≡ codeLength (now (input .entry))) × (r < 65536) ⌝ }
@@ -113,7 +113,7 @@ fn code_length(input: &[u8]) -> usize
     wide(input[2257]) * 256 + wide(input[2258])
 }
 
-// Saved state, code length, code and memory have their sizes.
+// R10.1: saved state, code length, code and memory have their sizes.
 fn is_laid_out(input: &[u8]) -> bool
     ensures { λ r. ⌜ r ≡ isLaidOut (now (input .entry)) ⌝ }
 {
@@ -168,8 +168,8 @@ fn print(input: &[u8], out: &mut [u8]) -> usize
     )
 }
 
-// All that is printed for the input goes to the start of the output; the answer is its length. Every text fits 12,288 bytes: in a shorter
-// output nothing is written, and the answer is 0.
+// R10.6: all that is printed for the input goes to the start of the output; the answer is its length. Every text fits 12,288 bytes: in a
+// shorter output nothing is written, and the answer is 0.
 pub fn command(input: &[u8], output: &mut [u8]) -> usize
     ensures { λ r. ⌜ Wrote (commanded (now (input .entry)) (now (output .entry))) (now (output .entry)) r (now (output .exit)) ⌝ }
 {

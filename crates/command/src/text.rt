@@ -49,7 +49,7 @@ fn put_hex(out: &mut [u8], at: usize, x: u32) -> usize
     at + k
 }
 
-// The line of a step: offset number control.
+// R10.4: the line of a step.
 pub fn put_step_line(out: &mut [u8], at: usize, offset: usize, number: u32, control: u32) -> usize
     requires { ⌜ at + 51 ≤ length (now out) ⌝ }
     ensures { λ r. ⌜ Put (stepLine offset number control) (now (out .entry)) at r (now (out .exit)) ⌝ }
@@ -62,7 +62,7 @@ pub fn put_step_line(out: &mut [u8], at: usize, offset: usize, number: u32, cont
     put_text(out, next, b"\n")
 }
 
-// The last line: stop offset.
+// R10.5: the last line.
 pub fn put_stop_line(out: &mut [u8], at: usize, offset: usize) -> usize
     requires { ⌜ at + 26 ≤ length (now out) ⌝ }
     ensures { λ r. ⌜ Put (stopLine offset) (now (out .entry)) at r (now (out .exit)) ⌝ }

@@ -1,4 +1,4 @@
--- Bytes after the instruction are not looked at: whatever follows its last byte, the same is decoded.
+-- R4.18: whatever follows an instruction's last byte, the same is decoded.
 -- Assumes nothing.
 use mathlib.Core.Path.{_≡_, refl, sym, ap, subst, _∙_}
 use mathlib.Core.Bool.{Bool, true, false, cond}

@@ -1,4 +1,4 @@
--- Document 01, 'Numbers the engine gets back' (below: 01, Numbers), as far as an instruction's bytes decide: the refusals in their order.
+-- docs/RULES.md, R4.5 to R4.12: the refusals that an instruction's bytes decide, in their order, and its fields where none applies.
 use Prim.Native.Nat.{ℕ}
 use mathlib.Core.Bool.{Bool, true, false, not, _&&_, _||_}
 use mathlib.Core.List.{List, [], _∷_, map}
@@ -16,59 +16,58 @@ use Rattle.evex.specs.declared.Refusal.the-variants.{Incomplete, Unliste
 use Rattle.evex.specs.declared.Decoded.{Decoded}
 use Rattle.evex.specs.declared.Decoded.the-variants.{Fields, Refused}
 
--- 01, Numbers: the table. 3: bytes end inside the instruction; 4: byte 0 not 62, or not in the list; 5: reserved encoding; 6: instruction
--- longer than 15 bytes.
+-- R4.1: the numbers.
 abbrev pub numberOf : Refusal → ℕ
 numberOf Incomplete = 3
 numberOf Unlisted = 4
 numberOf Reserved = 5
 numberOf TooLong = 6
 
--- ---- 01, Numbers: the conditions of the order
+-- ---- the conditions
 
--- No bytes.
+-- R4.5: there is no code.
 unfoldable pub noBytes : List ℕ → Bool
 noBytes code = eqb (length code) 0
 
--- Byte 0 not 62.
+-- R4.6: another byte 0 than 62. R2.3: so a prefix before it is refused too.
 unfoldable pub wrongFirstByte : List ℕ → Bool
 wrongFirstByte code = not (eqb (byte code 0) 0x62)
 
--- Fewer than six bytes.
+-- R4.7: every instruction has six bytes.
 unfoldable pub fewerThanSixBytes : List ℕ → Bool
 fewerThanSixBytes code = ltb (length code) 6
 
--- Byte 1 bit 3 set or byte 2 bit 2 clear.
+-- R4.8: a fixed bit of the prefix is wrong.
 unfoldable pub wrongFixedBits : Head → Bool
 wrongFixedBits h = isSet (h .byte1) 3 || not (isSet (h .byte2) 2)
 
--- Not in the list.
+-- R4.9: no row of the list. R2.3: so every other opcode is refused.
 unfoldable pub notInList : Listed → Bool
 notInList (Found row) = false
 notInList Nothing = true
 
--- Length bits 11 outside the embedded-rounding form.
+-- R4.10: length bits 3, but for embedded rounding.
 unfoldable pub reservedLength : Head → Bool
 reservedLength h = eqb (lengthBits h) 3 && not (embeddedRounding h)
 
--- z with aaa 000.
+-- R4.10: zeroing without a mask.
 unfoldable pub zeroingWithoutMask : Head → Bool
 zeroingWithoutMask h = z h && eqb (aaa h) 0
 
--- VSQRTPH with a first source: its five first-source bits, stored as ones, are the number 0.
+-- R4.10: bits for a first source, where the row has none; five ones, stored inverted, are the number 0.
 unfoldable pub extraSource : Head → Listed → Bool
 extraSource h (Found row) = not (hasFirst row) && not (eqb (firstSource h) 0)
 extraSource h Nothing = false
 
--- Missing SIB or displacement bytes. Where the SIB byte is missing the length counts it all the same, and is more than there are.
+-- R4.11: there are fewer bytes than the instruction has. Where the SIB byte is missing the length counts it all the same.
 unfoldable pub bytesMissing : Head → List ℕ → Bool
 bytesMissing h code = ltb (length code) (size h)
 
--- Longer than 15 bytes.
+-- R4.12: more than 15 bytes.
 unfoldable pub longerThanFifteenBytes : Head → Bool
 longerThanFifteenBytes h = ltb 15 (size h)
 
--- 01, Numbers: the order, from 'no bytes' to 6.
+-- R4.2: the order, from R4.5 to R4.12.
 unfoldable pub refusals : List ℕ → List (Bool × Refusal)
 refusals code =
     let h : Head = headOf code in
@@ -84,15 +83,14 @@ refusals code =
     ∷ (longerThanFifteenBytes h, TooLong)
     ∷ []
 
--- ---- decoding
+-- ---- R4.2: decoding
 
 -- The fields, where nothing refuses. (Without a row `notInList` has refused.)
 abbrev pub fields : Head → List ℕ → Listed → Decoded
 fields h code (Found row) = Fields (instruction h row (displacementOf h code))
 fields h code Nothing = Refused Unlisted
 
--- The refusal that comes first, or else the fields. Document 01 says 'decoded' of an instruction that nothing before 7 refuses: here
--- `Fields`, where neither 1 nor 2 is given.
+-- The refusal that comes first, or else the fields. (What R11.5 calls decoded asks for neither 1 nor 2 besides.)
 unfoldable pub decoded : List ℕ → Decoded
 decoded code =
     let h : Head = headOf code in

@@ -1,6 +1,4 @@
--- Document 01, 'Fields of an instruction' (below: 01, Fields), in its order. Of bytes that are refused the fields do not count
--- (Decode.antt). What 01 leaves to Intel's SDM (volume 2, 2.1.5): the sizes by mod, the scale, and that a displacement has its lowest
--- byte first.
+-- docs/RULES.md, section 3, in its order: the fields of an instruction. Of bytes that are refused they do not count (Decode.antt).
 use Prim.Native.Nat.{ℕ, _+_, _*_}
 use mathlib.Core.Bool.{Bool, cond, not, _&&_, _||_}
 use mathlib.Core.List.{List}
@@ -24,11 +22,11 @@ use Rattle.evex.specs.declared.Operand.{Operand}
 use Rattle.evex.specs.declared.Operand.the-variants as operand
 use Rattle.evex.specs.declared.Instruction.{Instruction}
 
--- 01, Fields: perhaps SIB. ModRM has mod, reg and rm; with mod 3 the operand is a register, else memory, and there rm 100 takes a SIB byte.
+-- R3.9: a memory form whose rm is 4 has a SIB byte. It is asked of ModRM alone, since `headOf` needs it.
 unfoldable pub takesSib : ℕ → Bool
 takesSib modrm = not (eqb (bits modrm 6 2) 3) && eqb (bits modrm 0 3) 4
 
--- 01, Fields: byte 0 is 62, bytes 1 to 3, then opcode, ModRM, perhaps SIB (0 where there is none).
+-- R3.1: the bytes behind byte 0, up to the SIB byte (0 where there is none).
 unfoldable pub headOf : List ℕ → Head
 headOf code =
     record {
@@ -41,7 +39,8 @@ headOf code =
     }
 
 module _ (h : Head) where
-  -- 01, Fields: byte 1, from bit 7: R, X, B, R' (all stored inverted), a 0, three map bits.
+  -- ---- R3.2: byte 1, but for its fixed bit
+
   abbrev pub R : ℕ
   R = inverted (h .byte1) 7 1
 
@@ -57,7 +56,8 @@ module _ (h : Head) where
   abbrev pub mapBits : ℕ
   mapBits = bits (h .byte1) 0 3
 
-  -- 01, Fields: byte 2: W, four inverted bits vvvv, a 1, two prefix bits.
+  -- ---- R3.3: byte 2, but for its fixed bit
+
   abbrev pub W : ℕ
   W = bits (h .byte2) 7 1
 
@@ -67,7 +67,8 @@ module _ (h : Head) where
   abbrev pub prefixBits : ℕ
   prefixBits = bits (h .byte2) 0 2
 
-  -- 01, Fields: byte 3: z, two length bits, b, V' inverted, three mask bits aaa.
+  -- ---- R3.4: byte 3
+
   abbrev pub z : Bool
   z = isSet (h .byte3) 7
 
@@ -83,7 +84,8 @@ module _ (h : Head) where
   abbrev pub aaa : ℕ
   aaa = bits (h .byte3) 0 3
 
-  -- 01, Fields: then opcode, ModRM. The row of the list that has them, if there is one.
+  -- ---- R3.5: ModRM
+
   abbrev pub modBits : ℕ
   modBits = bits (h .modrm) 6 2
 
@@ -93,10 +95,13 @@ module _ (h : Head) where
   abbrev pub rm : ℕ
   rm = bits (h .modrm) 0 3
 
+  -- ---- the row and the operands
+
+  -- R4.9: the row of the list that these bytes have, if there is one.
   unfoldable pub listed : Listed
   listed = find rows prefixBits mapBits W (h .opcode)
 
-  -- 01, Fields: destination: R' R reg. First source: V' vvvv. Second source with mod 3: X B rm.
+  -- R3.6: the numbers of vector registers.
   abbrev pub destination : ℕ
   destination = R′ * 16 + R * 8 + reg
 
@@ -106,73 +111,80 @@ module _ (h : Head) where
   abbrev pub secondSource : ℕ
   secondSource = X * 16 + B * 8 + rm
 
-  -- 01, Fields: VSQRTPH has one source (r/m).
+  -- R3.6: the first source, where the row has one.
   unfoldable pub first : Row → Source
   first row = cond (hasFirst row) (source.Register firstSource) source.None
 
-  -- 01, Fields: length bits 00, 01, 10 mean 8, 16, 32 lanes. In register form with b set there are 32 lanes, the length bits are the
-  -- rounding mode.
+  -- ---- the form
+
+  -- R3.5: register form, else memory form.
   unfoldable pub registerForm : Bool
   registerForm = eqb modBits 3
 
+  -- R3.8: b in register form.
   unfoldable pub embeddedRounding : Bool
   embeddedRounding = registerForm && b
 
+  -- R3.7, R3.8: 32 with embedded rounding, else by the length bits.
   unfoldable pub lanes : ℕ
   lanes = cond embeddedRounding 32 (cond (eqb lengthBits 0) 8 (cond (eqb lengthBits 1) 16 32))
 
+  -- R3.8: whose mode counts.
   unfoldable pub rounding : Rounding
   rounding = cond embeddedRounding (Embedded (modeOfBits lengthBits)) Control
 
-  -- 01, Fields, memory: rm 100 takes a SIB byte. Its low bits are the base then, as rm is without one.
+  -- ---- memory
+
+  -- R3.9: base bits are those of the SIB byte, or rm.
   unfoldable pub hasSib : Bool
   hasSib = takesSib (h .modrm)
 
   unfoldable pub baseBits : ℕ
   baseBits = cond hasSib (bits (h .sib) 0 3) rm
 
-  -- 01, Fields, memory: index 100 with X stored as one means no index. X extends the index; where there is none it is not read.
+  -- R3.10: the index with its scale; number 4 is none.
   abbrev pub indexNumber : ℕ
   indexNumber = X * 8 + bits (h .sib) 3 3
 
   unfoldable pub indexOf : Index
   indexOf = cond (hasSib && not (eqb indexNumber 4)) (index.Scaled indexNumber (bits (h .sib) 6 2)) index.None
 
-  -- 01, Fields, memory: base 101 with mod 0 means no base and a 32-bit displacement; rm 101 with mod 0 is a 32-bit displacement relative to
-  -- the next instruction. B extends the base; where there is none it is not read.
+  -- R3.11: no register is the base.
   unfoldable pub noBase : Bool
   noBase = eqb modBits 0 && eqb baseBits 5
 
+  -- R3.11: a general register, or what takes its place.
   unfoldable pub baseOf : Base
   baseOf = cond noBase (cond hasSib base.None base.NextInstruction) (base.General (B * 8 + baseBits))
 
-  -- Where the displacement stands, and its size in bytes: 1 with mod 1, 4 with mod 2 or without a base, else none.
+  -- R3.12: where the displacement stands, and how many bytes it has.
   unfoldable pub displacementAt : ℕ
   displacementAt = cond hasSib 7 6
 
   unfoldable pub displacementSize : ℕ
   displacementSize = cond (eqb modBits 1) 1 (cond (eqb modBits 2 || noBase) 4 0)
 
-  -- The instruction's length in bytes.
+  -- R3.14: the instruction's length in bytes.
   unfoldable pub size : ℕ
   size = displacementAt + displacementSize
 
-  -- 01, Fields, memory: displacements are signed. An 8-bit one counts in N bytes: 16, 32 or 64 by lane count, or 2 with b (broadcast).
+  -- R3.13: the unit of a displacement of one byte. A lane has 2 bytes.
   unfoldable pub N : ℕ
   N = cond b 2 (2 * lanes)
 
+  -- R3.12, R3.13: the displacement, 0 where there is none.
   unfoldable pub displacementOf : List ℕ → ℤ
   displacementOf code =
       cond (eqb displacementSize 1) (signed 8 (byte code displacementAt) *ℤ pos N)
       (cond (eqb displacementSize 4) (signed 32 (word code displacementAt)) (pos 0))
 
-  -- The second source, with the displacement that it has in memory.
+  -- R3.6, R3.8: the second source, with the displacement that it has in memory; b is broadcast there.
   unfoldable pub second : ℤ → Operand
   second displacement =
       cond registerForm (operand.Register secondSource)
       (operand.Memory (record { base = baseOf; index = indexOf; displacement = displacement }) b)
 
-  -- All fields, by the row of the list and the displacement.
+  -- R3.1: all fields, by the row of the list and the displacement.
   unfoldable pub instruction : Row → ℤ → Instruction
   instruction row displacement =
       record {

@@ -1,4 +1,4 @@
--- Document 01, 'What the machine carries': the list of instructions, a row for each. A new instruction is a new row.
+-- docs/RULES.md, R2.1 and R2.2: the list of instructions, a row for each. A new instruction is a new row.
 use Prim.Native.Nat.{ℕ}
 use mathlib.Core.Bool.{Bool, true, false, cond, _&&_}
 use mathlib.Core.List.{List, [], _∷_}
@@ -9,15 +9,14 @@ use Rattle.evex.specs.declared.list.Row.{Row}
 use Rattle.evex.specs.declared.list.Listed.{Listed}
 use Rattle.evex.specs.declared.list.Listed.the-variants.{Found, Nothing}
 
--- 01, Fields of an instruction: two prefix bits (00 none, 01 66, 10 F3, 11 F2).
+-- R3.3: the prefixes that the list has.
 abbrev none : ℕ
 none = 0
 
 abbrev p66 : ℕ
 p66 = 1
 
--- 01, What the machine carries: the table. Prefix, map, W, opcode; the operation; whether there is a first source (VSQRTPH has one source,
--- r/m).
+-- R2.1: the table. Prefix, map, W, opcode; the operation; whether there is a first source (R2.2).
 unfoldable pub rows : List Row
 rows =
     (none, 5, 0, 0x58, Add, true)
@@ -30,17 +29,21 @@ rows =
     ∷ (p66, 6, 0, 0xB8, Fused231, true)
     ∷ []
 
--- The columns by name.
+-- ---- the columns by name
+
+-- R4.9: the row has this prefix, map, W and opcode.
 abbrev pub isFor : Row → ℕ → ℕ → ℕ → ℕ → Bool
 isFor r prefix map w opcode = eqb (r .0) prefix && eqb (r .1) map && eqb (r .2) w && eqb (r .3) opcode
 
+-- R2.1: what it computes.
 abbrev pub operation : Row → Operation
 operation r = r .4
 
+-- R2.2: whether it has a first source.
 abbrev pub hasFirst : Row → Bool
 hasFirst r = r .5
 
--- The row with this prefix, map, W and opcode, or that there is none.
+-- R4.9: the row that has them, or that there is none.
 abbrev pub find : List Row → ℕ → ℕ → ℕ → ℕ → Listed
 find [] prefix map w opcode = Nothing
 find (r ∷ rs) prefix map w opcode = cond (isFor r prefix map w opcode) (Found r) (find rs prefix map w opcode)

@@ -93,7 +93,7 @@ pub(crate) fn signed32(x: u32) -> i32
     }
 }
 
-// An 8-bit displacement times N.
+// R3.13: a displacement of one byte, in bytes.
 pub(crate) fn scaled(d: i8, n: u8) -> i32
     ensures { λ r. ⌜ r ≡ d *ℤ pos n ⌝ }
 {

@@ -31,7 +31,7 @@ use super::list::Row;
 use super::list::find;
 use half::Mode;
 
-// Byte 0 is 62. `sib` is 0 where there is no SIB byte.
+// R3.1. `sib` is 0 where there is no SIB byte.
 pub struct Head {
     pub byte1: u8,
     pub byte2: u8,
@@ -41,7 +41,7 @@ pub struct Head {
     pub sib: u8,
 }
 
-// In a memory form rm 100 takes a SIB byte.
+// R3.9: rm 4 in a memory form.
 fn takes_sib(modrm: u8) -> bool
     ensures { λ r. ⌜ r ≡ takesSib modrm ⌝ }
 {
@@ -86,21 +86,21 @@ impl Head {
         is_set(self.byte3, 4)
     }
 
-    // With mod 3 the second source is a register.
+    // R3.5: mod 3.
     fn is_register_form(self) -> bool
         ensures { λ r. ⌜ r ≡ registerForm self ⌝ }
     {
         bits(self.modrm, 6, 2) == 3
     }
 
-    // In register form with b the length bits are the rounding mode.
+    // R3.8: b in register form.
     fn embeds_rounding(self) -> bool
         ensures { λ r. ⌜ r ≡ embeddedRounding self ⌝ }
     {
         self.is_register_form() & self.has_b()
     }
 
-    // R' R reg.
+    // R3.6: R', R, reg.
     fn destination(self) -> usize
         ensures { λ r. ⌜ r ≡ destination self ⌝ }
     {
@@ -111,14 +111,14 @@ impl Head {
         )
     }
 
-    // V' vvvv.
+    // R3.6: V', vvvv.
     fn first_source(self) -> usize
         ensures { λ r. ⌜ r ≡ firstSource self ⌝ }
     {
         joined(inverted(self.byte3, 3, 1), 4, inverted(self.byte2, 3, 4)) as usize
     }
 
-    // X B rm.
+    // R3.6: X, B, rm.
     fn second_source(self) -> usize
         ensures { λ r. ⌜ r ≡ secondSource self ⌝ }
     {
@@ -129,7 +129,7 @@ impl Head {
         )
     }
 
-    // VSQRTPH has none.
+    // R2.2: VSQRTPH has none.
     fn first(self, row: Row) -> Source
         ensures { λ r. ⌜ r ≡ first self row ⌝ }
     {
@@ -140,6 +140,7 @@ impl Head {
         Source::None
     }
 
+    // R3.7, R3.8.
     fn lanes(self) -> u8
         ensures { λ r. ⌜ (r ≡ lanes self) × (r ≤ 32) ⌝ }
     {
@@ -179,7 +180,7 @@ impl Head {
         bits(self.modrm, 0, 3)
     }
 
-    // With mod 0, 101: no base after a SIB byte, and else the next instruction.
+    // R3.11: base bits 5 with mod 0.
     fn has_no_base(self) -> bool
         ensures { λ r. ⌜ r ≡ noBase self ⌝ }
     {
@@ -205,7 +206,7 @@ impl Head {
         register(0, inverted(self.byte1, 6, 1), bits(self.sib, 3, 3))
     }
 
-    // Number 4 means none.
+    // R3.10: number 4 is none.
     fn index(self) -> Index
         ensures { λ r. ⌜ r ≡ indexOf self ⌝ }
     {
@@ -241,14 +242,14 @@ impl Head {
         0
     }
 
-    // The instruction's length in bytes.
+    // R3.14: the instruction's length in bytes.
     pub(crate) fn size(self) -> usize
         ensures { λ r. ⌜ r ≡ size self ⌝ }
     {
         self.displacement_at() + self.displacement_size()
     }
 
-    // N: the bytes that an 8-bit displacement counts in.
+    // R3.13: N.
     fn unit(self) -> u8
         ensures { λ r. ⌜ r ≡ N self ⌝ }
     {
@@ -311,7 +312,7 @@ impl Head {
         }
     }
 
-    // Byte 1 bit 3 is to be clear, and byte 2 bit 2 set.
+    // R4.8: bit 3 of byte 1 is to be 0, and bit 2 of byte 2 to be 1.
     pub(crate) fn has_wrong_fixed_bits(self) -> bool
         ensures { λ r. ⌜ r ≡ wrongFixedBits self ⌝ }
     {
@@ -327,21 +328,21 @@ impl Head {
         find(prefix, map, w, self.opcode)
     }
 
-    // Length bits 11 outside the embedded-rounding form.
+    // R4.10: length bits 3 without embedded rounding.
     fn has_reserved_length(self) -> bool
         ensures { λ r. ⌜ r ≡ reservedLength self ⌝ }
     {
         (self.length_bits() == 3) & !self.embeds_rounding()
     }
 
-    // z with aaa 000.
+    // R4.10: z without a mask.
     fn zeroes_without_mask(self) -> bool
         ensures { λ r. ⌜ r ≡ zeroingWithoutMask self ⌝ }
     {
         is_set(self.byte3, 7) & (bits(self.byte3, 0, 3) == 0)
     }
 
-    // VSQRTPH with a first source.
+    // R4.10: VSQRTPH with bits for a first source.
     fn has_extra_source(self, row: Row) -> bool
         ensures { λ r. ⌜ r ≡ extraSource self (Found row) ⌝ }
     {

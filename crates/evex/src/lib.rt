@@ -1,4 +1,4 @@
-// The bytes of an instruction: its fields, or why they are refused (document 01, 'Fields of an instruction').
+// The bytes of an instruction: its fields (R3.1 to R3.14), or why they are refused (R4.5 to R4.12).
 ghost use mathlib.Core.Path.{_≡_};
 ghost use Rattle.evex.specs.Decode.{decoded, numberOf};
 use half::Mode;
@@ -57,7 +57,7 @@ pub enum Operand {
     Memory { address: Address, broadcast: bool },
 }
 
-// The fields of an instruction. Lanes are 8, 16 or 32; the size is its length in bytes.
+// The fields of an instruction. Lanes are 8, 16 or 32 (R3.7); the size is its length in bytes (R3.14).
 pub struct Instruction {
     pub operation: Operation,
     pub lanes: usize,
@@ -70,7 +70,7 @@ pub struct Instruction {
     pub size: usize,
 }
 
-// Why bytes are refused: they end inside the instruction; they are not in the list; reserved encoding; more than 15 bytes.
+// Why bytes are refused: the code ends too early; not in the list; reserved encoding; more than 15 bytes (R4.1).
 pub enum Refusal {
     Incomplete,
     Unlisted,
@@ -84,7 +84,7 @@ pub enum Decoded {
 }
 
 impl Refusal {
-    // Document 01's number.
+    // The number of the answer (R4.1).
     pub fn number(self) -> u32
         ensures { λ r. ⌜ r ≡ numberOf self ⌝ }
     {
@@ -97,7 +97,7 @@ impl Refusal {
     }
 }
 
-// The instruction that the bytes begin with. What follows it is not looked at.
+// The instruction that the bytes begin with, in the order of R4.2. What follows it has no effect (R4.18).
 pub fn decode(code: &[u8]) -> Decoded
     ensures { λ r. ⌜ r ≡ decoded (now (code .entry)) ⌝ }
 {

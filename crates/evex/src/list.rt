@@ -1,4 +1,4 @@
-// The list of instructions (document 01, 'What the machine carries').
+// The list of instructions (R2.1).
 ghost use mathlib.Core.Path.{_≡_};
 ghost use mathlib.Core.List.{_∷_};
 ghost use Prim.Native.Nat.{_+_, _<_};

@@ -1,11 +1,13 @@
--- 01, Rounding and flags: "exact results are written as fractions of whole numbers, and a root by comparing squares". An exact
--- magnitude is asked two things: how it compares with a ratio, and how many whole units it holds; `roundTo` rounds it by these.
+-- docs/RULES.md, R6.16 and R6.17: exact results, and how they are rounded to a unit. An exact magnitude is asked two things: how it
+-- compares with a ratio, and how many whole units it holds; `roundTo` rounds it by these.
 use Prim.Native.Nat.{ℕ, zero, suc, _+_, _*_, _/_, _^_, compare, Ordering, Ordering·lt, Ordering·eq, Ordering·gt}
 use mathlib.Core.Bool.{Bool, true, false, not, cond}
 use lib.Dec.{leb}
 use lib.Ieee.{size, nearest}
 use Rattle.half.specs.declared.Mode.{Mode}
 use Rattle.half.specs.declared.Mode.the-variants.{Nearest, Down, Up, TowardZero}
+
+-- ---- R6.16: exact magnitudes
 
 -- the number n / d, or the square root of n / d; d is above 0
 pub data Magnitude : Type 0 where
@@ -35,7 +37,7 @@ unfoldable pub whole : Magnitude → ℕ → ℕ → ℕ
 whole (ratio n d) a b = n * b / (d * a)
 whole (rootOf n d) a b = wholeRoot (n * (b * b) / (d * (a * a)))
 
--- ---- rounding to whole units: q of them, or q + 1
+-- ---- R6.17: rounding to a unit, to q of them or q + 1
 
 abbrev pub isNearest : Mode → Bool
 isNearest Nearest = true

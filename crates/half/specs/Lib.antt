@@ -1,4 +1,4 @@
--- What a reader opens: Format, Modes, Exact, Round, Operations, in this order; Rows has document 01's starred rows.
+-- What a reader opens: Format, Modes, Exact, Round, Operations, in this order; Rows has the examples that are proved.
 -- Work is for the code alone.
 pub mod Format
 pub mod Modes

@@ -1,5 +1,4 @@
--- 01, Rounding and flags: the six operations, "first that applies" of rules 1 to 4. `unmaskedUE` says whether
--- UE is unmasked.
+-- docs/RULES.md, R6.5 to R6.15: the six operations. `unmaskedUE` says whether UE is unmasked.
 use Prim.Native.Nat.{ℕ, _+_, _-_, _*_, _^_}
 use mathlib.Core.Bool.{Bool, false, not, _&&_, _||_, cond, Bool·beq}
 use mathlib.Core.List.{List, [], _∷_}
@@ -16,43 +15,42 @@ use Rattle.half.specs.declared.Outcome.{Outcome}
 
 -- ---- what the operations share
 
--- "Operand order is as written": the list's
+-- R6.6: the operands stand in the order of the list
 abbrev pub firstNan : List ℕ → ℕ
 firstNan [] = 0
 firstNan (h ∷ hs) = cond (isNan h) h (firstNan hs)
 
--- 1. "A NaN operand: the result is the first NaN operand, made quiet by setting fraction bit 9." "IE exactly if some operand is
--- signalling."
+-- R6.6: the first NaN made quiet, and IE for a signalling one, wherever it stands
 abbrev pub nanResult : List ℕ → Outcome
 nanResult hs = result (quiet (firstNan hs)) (flag IE (some isSignalling hs))
 
 abbrev pub unlessNan : List ℕ → Outcome → Outcome
 unlessNan hs o = cond (some isNan hs) (nanResult hs) o
 
--- 2. "Invalid (..): FE00 and IE."
+-- R6.7: no number
 abbrev pub invalid : Outcome
 invalid = result 0xFE00 IE
 
--- 3. "A subnormal operand gives DE, beside what follows."
+-- R6.9: DE for a subnormal operand, beside the flags of what follows
 abbrev pub withDenormals : List ℕ → Outcome → Outcome
 withDenormals hs o = result (o .half) (bitOr (flag DE (some isSubnormal hs)) (o .flags))
 
--- "the exact infinity or zero that IEEE 754 gives, with no flag but a DE from 3"
+-- R6.10: an infinity or a zero that is exact, without a flag of its own
 abbrev pub exactly : ℕ → Outcome
 exactly h = result h 0
 
--- the operands' signs differ
+-- R6.11: the operands have unlike signs
 abbrev pub unlike : ℕ → ℕ → Bool
 unlike a b = not (Bool·beq (negative a) (negative b))
 
--- "A zero sum of unlike signs is +0, or -0 in mode 1, also where a fused form cancels exactly"
+-- R6.12: what terms of unlike signs give that come to zero
 abbrev pub cancelled : Mode → ℕ
 cancelled Nearest = 0x0000
 cancelled Down = 0x8000
 cancelled Up = 0x0000
 cancelled TowardZero = 0x0000
 
--- 4, for a sum of ± x / d and ± y / d. "Like signs keep theirs", also a zero.
+-- R6.12: the sum of ± x / d and ± y / d, rounded
 unfoldable pub exactSum : Mode → Bool → Bool → ℕ → Bool → ℕ → ℕ → Outcome
 exactSum mode unmaskedUE sx x sy y d =
     cond (Bool·beq sx sy) (roundedHalf mode unmaskedUE sx (ratio (x + y) d))
@@ -60,9 +58,9 @@ exactSum mode unmaskedUE sx x sy y d =
     (cond (ltb x y) (roundedHalf mode unmaskedUE sy (ratio (y - x) d))
     (exactly (cancelled mode))))
 
--- ---- the operations. `units h` is the magnitude of h times 2 ^ 24
+-- ---- R6.5: the operations. `units h` is the magnitude of h times 2 ^ 24
 
--- invalid: infinities that cancel
+-- R6.12, a + b. Invalid (R6.7): infinities of unlike signs.
 unfoldable pub halfAdd : Mode → Bool → ℕ → ℕ → Outcome
 halfAdd mode unmaskedUE a b =
     unlessNan (a ∷ b ∷ [])
@@ -72,11 +70,11 @@ halfAdd mode unmaskedUE a b =
     (cond (isInfinite b) (exactly b)
     (exactSum mode unmaskedUE (negative a) (units a) (negative b) (units b) (2 ^ 24))))))
 
--- a + (-b), but a NaN keeps its sign
+-- R6.13: the sign of b turned; a NaN is handed back with its own
 unfoldable pub halfSubtract : Mode → Bool → ℕ → ℕ → Outcome
 halfSubtract mode unmaskedUE a b = unlessNan (a ∷ b ∷ []) (halfAdd mode unmaskedUE a (negated b))
 
--- invalid: 0 times infinity. "The sign of a product or quotient, zero or not, is minus exactly when the operands' signs differ".
+-- R6.11, a * b. Invalid (R6.7): zero times infinity.
 unfoldable pub halfMultiply : Mode → Bool → ℕ → ℕ → Outcome
 halfMultiply mode unmaskedUE a b =
     unlessNan (a ∷ b ∷ [])
@@ -85,7 +83,7 @@ halfMultiply mode unmaskedUE a b =
     (cond (isInfinite a || isInfinite b) (exactly (infinity (unlike a b)))
     (roundedHalf mode unmaskedUE (unlike a b) (ratio (units a * units b) (2 ^ 48))))))
 
--- invalid: 0/0, infinity/infinity. "Finite non-zero divided by zero: signed infinity and ZE."
+-- R6.11, a / b. Invalid (R6.7): zero over zero, infinity over infinity. R6.8: a finite half that is no zero, over zero.
 unfoldable pub halfDivide : Mode → Bool → ℕ → ℕ → Outcome
 halfDivide mode unmaskedUE a b =
     unlessNan (a ∷ b ∷ [])
@@ -96,7 +94,7 @@ halfDivide mode unmaskedUE a b =
     (cond (isInfinite b) (exactly (withSign (unlike a b) 0))
     (roundedHalf mode unmaskedUE (unlike a b) (ratio (units a) (units b))))))))
 
--- invalid: root of a negative non-zero. "The root of -0 is -0."
+-- R6.14, the root of a. Invalid (R6.7): below zero.
 unfoldable pub halfRoot : Mode → Bool → ℕ → Outcome
 halfRoot mode unmaskedUE a =
     unlessNan (a ∷ [])
@@ -105,7 +103,7 @@ halfRoot mode unmaskedUE a =
     (cond (isZero a || isInfinite a) (exactly a)
     (roundedHalf mode unmaskedUE false (rootOf (units a) (2 ^ 24))))))
 
--- a * b + c, "for fused forms multiplicand, multiplier, addend"; invalid: 0 times infinity, infinities that cancel
+-- R6.15, a * b + c. Invalid (R6.7): zero times infinity, an infinite product and an infinite addend of unlike signs.
 unfoldable pub halfMultiplyAdd : Mode → Bool → ℕ → ℕ → ℕ → Outcome
 halfMultiplyAdd mode unmaskedUE a b c =
     unlessNan (a ∷ b ∷ c ∷ [])

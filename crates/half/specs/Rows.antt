@@ -1,4 +1,4 @@
--- 01, Lanes and bytes to try: the starred rows, one table. The statement over it, by these definitions and by a step, is the machine's
+-- docs/RULES.md, R12.1: the examples marked *, one table. The statement over it, by these definitions and by a step, is the machine's
 -- (crate machine, specs/Rows.antt).
 use Prim.Native.Nat.{ℕ}
 use mathlib.Core.Bool.{Bool, true, false}
@@ -9,6 +9,8 @@ use Rattle.half.specs.Operations.{halfAdd, halfMultiply, halfDivide, hal
 use Rattle.half.specs.declared.Mode.{Mode}
 use Rattle.half.specs.declared.Mode.the-variants.{Nearest, Down, Up, TowardZero}
 use Rattle.half.specs.declared.Outcome.{Outcome}
+
+-- ---- R12.1
 
 pub data Operation : Type 0 where
   plus times over root fused : Operation
@@ -26,7 +28,7 @@ pub record Row : Type 0 where
 abbrev pub row : Operation → Mode → Bool → ℕ → ℕ → ℕ → ℕ → ℕ → Row
 row o m u a b c h f = record { op = o; mode = m; unmaskedUE = u; a = a; b = b; c = c; gives = result h f }
 
--- "Masked, mode 0 unless said." A row that names no flag has none, but that 3C00/4200 in mode 2 is inexact like its neighbour.
+-- The table. A row has the operation, the mode, whether UE is unmasked, three operands, the half and the flags.
 unfoldable pub starred : List Row
 starred =
     row plus Nearest false 0x3C00 0xBC00 0 0x0000 0

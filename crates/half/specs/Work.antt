@@ -1,4 +1,5 @@
--- Used by the code's private functions; nothing here has to be believed: laws tie it to the definitions (proofs/Bridge.antt).
+-- No clause: used by the code's private functions, and nothing here has to be believed. Laws tie it to the definitions
+-- (proofs/Bridge.antt).
 -- The place of a number v ≥ 0 among the whole numbers: 2 c where v is c, and 2 c + 1 where v lies between c and c + 1.
 use Prim.Native.Nat.{ℕ, _+_, _-_, _*_, _/_, _%_, _^_, _<_, _≤_, min}
 use mathlib.Core.Bool.{Bool, true, false, _&&_, cond, Bool·beq}

@@ -1,4 +1,4 @@
-// The fields of a half, by shifts and masks, and halves made of them.
+// The fields of a half, by shifts and masks, and halves made of them (R6.1 to R6.3).
 ghost use mathlib.Core.Path.{_≡_};
 ghost use Prim.Native.Nat.{_<_, _-_};
 ghost use Rattle.half.specs.Format.{negative, exponentField, fractionField, isFinite, isInfinite, isNan, isSignalling, isZero};

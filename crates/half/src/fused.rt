@@ -1,4 +1,4 @@
-// Fused multiply and add.
+// Fused multiply and add (R6.15).
 ghost use mathlib.Core.Path.{_≡_};
 ghost use Prim.Native.Nat.{_<_, _≤_, _+_, _*_, _^_};
 ghost use mathlib.Core.Bool.{Bool, true, false, _&&_};

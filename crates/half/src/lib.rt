@@ -1,4 +1,4 @@
-// IEEE 754 binary16 arithmetic: six operations, each rounded once, with its six flags.
+// IEEE 754 binary16 arithmetic: six operations, each rounded once, with its six flags (docs/RULES.md, R6.1 to R6.24).
 ghost use mathlib.Core.Path.{_≡_};
 ghost use Rattle.half.specs.Modes.{modeOfBits};
 
@@ -12,7 +12,7 @@ pub mod root;
 mod rounding;
 pub mod sum;
 
-// The rounding modes of document 01, in the order of their numbers.
+// The rounding modes (R6.4), in the order of their numbers.
 pub enum Mode {
     Nearest,
     Down,
@@ -34,7 +34,7 @@ impl Mode {
     }
 }
 
-// The flags, in the order of their bits.
+// The flags (R1.5), in the order of their bits.
 const IE: u8 = 1;
 
 const DE: u8 = 2;

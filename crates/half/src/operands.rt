@@ -1,4 +1,4 @@
-// What the operations share, for three operands: an operation with fewer hands its last one in again.
+// What the operations share (R6.6, R6.7, R6.9), for three operands: an operation with fewer hands its last one in again.
 ghost use mathlib.Core.Path.{_≡_};
 ghost use mathlib.Core.Bool.{_&&_, cond};
 ghost use mathlib.Core.List.{[], _∷_};
@@ -51,7 +51,7 @@ fn nan_or(a: u16, other: u16) -> u16
     if fields::nan(a) { a } else { other }
 }
 
-// The first NaN operand, made quiet.
+// R6.6: the first NaN among the operands.
 pub fn nan_result(a: u16, b: u16, c: u16) -> Outcome
     ensures { λ r. ⌜ r ≡ nanResult (a ∷ b ∷ c ∷ []) ⌝ }
 {

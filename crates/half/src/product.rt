@@ -1,4 +1,4 @@
-// Multiplication.
+// Multiplication (R6.11).
 ghost use mathlib.Core.Path.{_≡_};
 ghost use Prim.Native.Nat.{_<_, _+_, _-_, _*_, _^_};
 ghost use mathlib.Core.Bool.{Bool, true, false, _&&_, _||_};

@@ -1,4 +1,4 @@
-// Division.
+// Division (R6.8, R6.11).
 ghost use mathlib.Core.Path.{_≡_};
 ghost use Prim.Native.Nat.{_<_, _-_, _*_, _^_, min};
 ghost use mathlib.Core.Bool.{Bool, true, false, not, _&&_};

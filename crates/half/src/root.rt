@@ -1,4 +1,4 @@
-// Square root.
+// Square root (R6.14).
 ghost use mathlib.Core.Path.{_≡_};
 ghost use Prim.Native.Nat.{_+_, _-_, _*_, _/_, _<_, _^_};
 ghost use mathlib.Core.Bool.{Bool, true, false, not, _&&_};

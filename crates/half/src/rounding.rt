@@ -1,5 +1,5 @@
-// The one rounding that all operations share. A magnitude comes as its place t among the multiples of 2^-26 (specs/Work.antt):
-// t / 2^27 rounds as the magnitude does.
+// The one rounding that all operations share (R6.17 to R6.24). A magnitude comes as its place t among the multiples of 2^-26
+// (specs/Work.antt): t / 2^27 rounds as the magnitude does.
 ghost use mathlib.Core.Path.{_≡_};
 ghost use Prim.Native.Nat.{_+_, _-_, _*_, _^_, _<_, _≤_};
 ghost use mathlib.Core.Bool.{true, false, cond};
@@ -93,7 +93,7 @@ fn overflow_fields(mode: Mode, neg: bool) -> u16
     0x7BFF
 }
 
-// What a magnitude gives that is too large.
+// R6.20: what a magnitude gives that is too large.
 pub fn overflow(mode: Mode, neg: bool) -> Outcome
     ensures { λ r. ⌜ r ≡ result (withSign neg (overflowFields mode neg)) (bitOr OE PE) ⌝ }
 {
@@ -121,7 +121,7 @@ fn dropped(t: u64) -> u32
     if zeros < 50 { 50 - zeros } else { 0 }
 }
 
-// t / 2^27 is tiny: 2^-14 is 8192 of these, and just below it the steps of 11 bits are 4. The last step, from 8188 on, is the odd
+// R6.21: t / 2^27 is tiny. 2^-14 is 8192 of these, and just below it the steps of 11 bits are 4. The last step, from 8188 on, is the odd
 // 2047: what is carried into the next leads to 2^-14.
 fn is_tiny(mode: Mode, neg: bool, t: u64) -> bool
     ensures { λ r. ⌜ r ≡ tiny mode neg (ratio t (2 ^ 27)) ⌝ }

@@ -1,4 +1,4 @@
-// Addition and subtraction.
+// Addition and subtraction (R6.12, R6.13).
 ghost use mathlib.Core.Path.{_≡_};
 ghost use Prim.Native.Nat.{_<_, _≤_, _+_, _*_, _^_, min};
 ghost use mathlib.Core.Bool.{Bool, true, false, _&&_, cond};
@@ -13,7 +13,7 @@ use super::normal;
 use super::operands;
 use super::rounding;
 
-// The zero that a sum of unlike signs gives.
+// R6.12: the zero that terms of unlike signs give.
 fn cancelled_zero(mode: Mode) -> u16
     ensures { λ r. ⌜ r ≡ cancelled mode ⌝ }
 {
@@ -66,7 +66,7 @@ fn place_of_sum(m: u64, k: u32) -> u64
     rounding::place_of(m, k)
 }
 
-// The zero that a sum is: of like signs it has theirs.
+// R6.12: the zero that a sum is.
 fn zero_sum(mode: Mode, like: bool, neg: bool) -> u16
     ensures { λ r. ⌜ r ≡ cond like (withSign neg 0) (cancelled mode) ⌝ }
 {
@@ -187,7 +187,7 @@ pub fn add(mode: Mode, unmasked_ue: bool, a: u16, b: u16) -> Outcome
     normal::round_large(mode, s.neg, s.digits, s.exponent)
 }
 
-// The sign turned, but that of a NaN.
+// R6.13: the sign turned, but that of a NaN.
 fn subtrahend(b: u16) -> u16
     ensures { λ r. ⌜ r ≡ cond (isNan b) b (negated b) ⌝ }
 {

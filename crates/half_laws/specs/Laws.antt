@@ -1,6 +1,6 @@
--- The rounding that is defined in half's specs/Exact.antt and Round.antt is IEEE 754's. proofs/Proved.antt has a proof of each law
--- under the law's name. Throughout, ± x is the exact value: x its magnitude, a ratio or a root, with a denominator above 0, and
--- `neg` its sign; `unmaskedUE` says whether underflow is unmasked.
+-- The rounding that is defined in half's specs/Exact.antt and Round.antt (docs/RULES.md, R6.16 to R6.24) is IEEE 754's.
+-- proofs/Proved.antt has a proof of each law under the law's name. Throughout, ± x is the exact value: x its magnitude, a ratio or a
+-- root, with a denominator above 0, and `neg` its sign; `unmaskedUE` says whether underflow is unmasked.
 use Prim.Native.Nat.{ℕ, _+_, _*_, _/_, _%_, _^_, _≤_, _<_}
 use mathlib.Core.Bool.{Bool, true, false, _&&_, _||_}
 use mathlib.Core.List.{[], _∷_}
@@ -16,6 +16,8 @@ use Rattle.half.specs.declared.Mode.{Mode}
 use Rattle.half.specs.declared.Mode.the-variants.{Nearest, Down, Up, TowardZero}
 use Rattle.half_laws.specs.Values.{AtMost, AtLeast, Equals, Above, Below, Leq, HalfNotAbove, HalfNotBelow, HalfLe}
 
+-- ---- R6.20, R6.23: what rounding gives
+
 -- the half that ± x is rounded to
 abbrev pub halfOf : Mode → Bool → Bool → Magnitude → ℕ
 halfOf mode unmaskedUE neg x = (roundedHalf mode unmaskedUE neg x) .half
@@ -24,12 +26,12 @@ halfOf mode unmaskedUE neg x = (roundedHalf mode unmaskedUE neg x) .half
 abbrev pub raises : ℕ → Mode → Bool → Bool → Magnitude → Bool
 raises flag mode unmaskedUE neg x = eqb ((roundedHalf mode unmaskedUE neg x) .flags / flag % 2) 1
 
--- ---- 0. Whole units: `whole x a b` is the q with q units a / b ≤ x < q + 1 units, of a root too
+-- ---- 0. R6.16, whole units: `whole x a b` is the q with q units a / b ≤ x < q + 1 units, of a root too
 abbrev pub WholeUnitsLaw : Type 0
 WholeUnitsLaw = (x : Magnitude) → 0 < denominator x → (a b : ℕ) → 0 < a
     → AtLeast x (whole x a b * a) b × Below x ((whole x a b + 1) * a) b
 
--- ---- 1. What is delivered without overflow
+-- ---- 1. R6.18, R6.24: what is delivered without overflow
 
 -- h is a finite half with this sign, and stands for n * 2 ^ -24
 pub record StandsFor (neg : Bool) (n h : ℕ) : Type 0 where
@@ -43,7 +45,7 @@ abbrev pub DeliveredHalfLaw : Type 0
 DeliveredHalfLaw = (mode : Mode) (unmaskedUE neg : Bool) (x : Magnitude) → 0 < denominator x → overflows mode neg x ≡ false
     → StandsFor neg (delivered mode neg x) (halfOf mode unmaskedUE neg x)
 
--- ---- 2. To nearest, ties to even (IEEE 754, 4.3.1: roundTiesToEven)
+-- ---- 2. R6.17: to nearest, ties to even (IEEE 754, 4.3.1: roundTiesToEven)
 
 -- No finite half h is nearer to x than r, as magnitudes: x lies on r's side of the middle between them, (r + h) / 2, or at it. (So r
 -- is at most 2 x, by the half 0, and no half of the other sign is nearer either.) Where another half is as near, r is the even one:
@@ -57,7 +59,7 @@ abbrev pub NearestLaw : Type 0
 NearestLaw = (unmaskedUE neg : Bool) (x : Magnitude) → 0 < denominator x → overflows Nearest neg x ≡ false
     → NearestTo x (halfOf Nearest unmaskedUE neg x)
 
--- ---- 3. The directed roundings (IEEE 754, 4.3.2)
+-- ---- 3. R6.17: the directed roundings (IEEE 754, 4.3.2)
 
 -- r is the greatest half that is not above ± x
 pub record Greatest (neg : Bool) (x : Magnitude) (r : ℕ) : Type 0 where
@@ -89,12 +91,12 @@ abbrev pub TowardZeroLaw : Type 0
 TowardZeroLaw = (unmaskedUE neg : Bool) (x : Magnitude) → 0 < denominator x → overflows TowardZero neg x ≡ false
     → GreatestMagnitude x (halfOf TowardZero unmaskedUE neg x)
 
--- ---- 4. Inexact (IEEE 754, 7.6; 01: "PE if it differs from the exact value"), without overflow
+-- ---- 4. R6.22: inexact (IEEE 754, 7.6), without overflow
 abbrev pub InexactLaw : Type 0
 InexactLaw = (mode : Mode) (unmaskedUE neg : Bool) (x : Magnitude) → 0 < denominator x → overflows mode neg x ≡ false
     → (raises PE mode unmaskedUE neg x ≡ true) ↔ ¬ Equals x (units (halfOf mode unmaskedUE neg x)) (2 ^ 24)
 
--- ---- 5. Overflow (IEEE 754, 7.4; 01: "Magnitude 65,536 or more: OE and PE, and infinity or 7BFF/FBFF by mode")
+-- ---- 5. R6.20: overflow (IEEE 754, 7.4)
 
 -- OE exactly if the value rounded to 11 bits with no exponent limit, a number of units 2 ^ -(fine x), reaches 65,536
 abbrev pub OverflowFlagLaw : Type 0
@@ -135,7 +137,7 @@ abbrev pub TooLargeLaw : Type 0
 TooLargeLaw = (mode : Mode) (neg : Bool) (x : Magnitude) → 0 < denominator x
     → (overflows mode neg x ≡ true) ↔ TooLarge mode neg x
 
--- ---- 6. Underflow (IEEE 754, 7.5, detected after rounding; 01: "UE if tiny and either UE is unmasked or PE holds"), without overflow
+-- ---- 6. R6.21, R6.23: underflow (IEEE 754, 7.5, detected after rounding), without overflow
 abbrev pub UnderflowFlagLaw : Type 0
 UnderflowFlagLaw = (mode : Mode) (unmaskedUE neg : Bool) (x : Magnitude) → overflows mode neg x ≡ false
     → raises UE mode unmaskedUE neg x ≡ (tiny mode neg x && (unmaskedUE || raises PE mode unmaskedUE neg x))
@@ -155,12 +157,12 @@ abbrev pub TooSmallLaw : Type 0
 TooSmallLaw = (mode : Mode) (neg : Bool) (x : Magnitude) → 0 < denominator x
     → (tiny mode neg x ≡ true) ↔ (Above x 0 1 × TooSmall mode neg x)
 
--- ---- 7. No other flags: none at all, UE, PE, both of these, or OE with PE
+-- ---- 7. R6.22, R6.23: no other flags than none at all, UE, PE, both of these, or OE with PE
 abbrev pub FlagsLaw : Type 0
 FlagsLaw = (mode : Mode) (unmaskedUE neg : Bool) (x : Magnitude)
     → some (eqb ((roundedHalf mode unmaskedUE neg x) .flags)) (0 ∷ UE ∷ PE ∷ bitOr UE PE ∷ bitOr OE PE ∷ []) ≡ true
 
--- ---- 8. "Round to 11 significant bits with no exponent limit"
+-- ---- 8. R6.19: 11 significant bits, whatever the exponent
 
 -- The unit 2 ^ -(fine x) sets no limit: a finer one gives the same number.
 abbrev pub FinerLaw : Type 0
@@ -177,13 +179,13 @@ pub record ElevenBits (mode : Mode) (neg : Bool) (x : Magnitude) : Type 0 where
 abbrev pub ElevenBitsLaw : Type 0
 ElevenBitsLaw = (mode : Mode) (neg : Bool) (x : Magnitude) → 0 < denominator x → Above x 0 1 → ElevenBits mode neg x
 
--- ---- 9. An exact value that is a finite half's is delivered as that half, in every mode, without PE
+-- ---- 9. R6.18: an exact value that is a finite half's is delivered as that half, in every mode, without PE
 abbrev pub ExactLaw : Type 0
 ExactLaw = (mode : Mode) (unmaskedUE : Bool) (x : Magnitude) → 0 < denominator x → (h : ℕ) → h < 2 ^ 16 → isFinite h ≡ true
     → Equals x (units h) (2 ^ 24)
     → (halfOf mode unmaskedUE (negative h) x ≡ h) × (raises PE mode unmaskedUE (negative h) x ≡ false)
 
--- ---- 10. Rounding keeps order: in one mode and sign, a larger magnitude is rounded to no smaller one
+-- ---- 10. R6.18: rounding keeps order. In one mode and sign, a larger magnitude is rounded to no smaller one
 abbrev pub OrderLaw : Type 0
 OrderLaw = (mode : Mode) (neg : Bool) (x y : Magnitude) → 0 < denominator x → 0 < denominator y → Leq x y
     → delivered mode neg x ≤ delivered mode neg y

@@ -1,4 +1,4 @@
--- How the laws compare an exact value with ratios, with halves and with another exact value.
+-- How the laws compare an exact value with ratios, with halves and with another exact value. No clause of docs/RULES.md speaks of these.
 use Prim.Native.Nat.{ℕ, _*_, _^_, _≤_, Ordering·lt, Ordering·eq, Ordering·gt}
 use mathlib.Core.Bool.{Bool, true, false, not}
 use mathlib.Core.Logic.{_≢_}

@@ -1,4 +1,4 @@
--- The words for lists that the definitions share.
+-- The words for lists that the definitions share. No clause of docs/RULES.md speaks of them.
 use Prim.Native.Nat.{ℕ, zero, suc, _+_, _*_}
 use mathlib.Core.Path.{_≡_}
 use mathlib.Core.Bool.{Bool, false, _||_, cond}

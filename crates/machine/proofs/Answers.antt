@@ -1,5 +1,5 @@
--- Demand 1: the statements of specs/Answers.antt. The number is `firstOf` of the one list of conditions, and each of them has a number
--- that is not 0; what is left is read off the two ways in which a step ends.
+-- Section 4 of docs/RULES.md: the statements of specs/Answers.antt. The number is `firstOf` of the one list of conditions, and each of them
+-- has a number that is not 0; what is left is read off the two ways in which a step ends.
 -- Assumes nothing.
 use Prim.Native.Nat.{ℕ, suc, _<_}
 use mathlib.Core.Path.{_≡_, refl, sym, _∙_}

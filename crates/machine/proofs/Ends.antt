@@ -1,4 +1,4 @@
--- The ways in which a step ends, a law for each `return` of a code that tests in the order of document 01: what the proof of the step's
+-- The ways in which a step ends, a law for each `return` of a code that tests in the order of R4.2: what the proof of the step's
 -- code cites. Below them the two ways that the theorems go by: something before 7 refuses, or the instruction is decoded.
 -- Assumes nothing.
 use Prim.Native.Nat.{ℕ, suc, _≤_, _<_, _^_}
@@ -53,7 +53,7 @@ module _ (memory : List ℕ) (s : State) (code : List ℕ) where
   unfolding answerOf conditions
   answer = first-append (beforeSeven s code) _ 0
 
-  -- a number other than 0 and 8 leaves all as before
+  -- every number but 0 and 8 leaves the state unchanged
   refuses : (n : ℕ) → answerOf memory s code ≡ n → eqb n 0 ≡ false → eqb n 8 ≡ false → step memory s code ≡ refused n s
   unfolding step
   refuses n e not0 not8 = rw (e, not0, not8) (go (decoded code))

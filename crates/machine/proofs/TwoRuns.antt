@@ -1,4 +1,4 @@
--- Demand 3: the two-run theorem of specs/TwoRuns.antt.
+-- R11.7: the two-run theorem of specs/TwoRuns.antt.
 --
 -- A step looks at the vector file and the memory in three ways: at their lengths; through `gathered`, only at lanes that are on and at
 -- bytes that these need (`gathered-equal`); and at the destination's own bytes, each of which is kept at its place (`written-alike`).

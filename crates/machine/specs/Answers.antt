@@ -1,5 +1,4 @@
--- Document 01, 'Numbers the engine gets back': which answer is given, and what it leaves. The statements; their proofs are in
--- proofs/Answers.antt.
+-- docs/RULES.md, section 4: which answer is given, and what it leaves. The statements; their proofs are in proofs/Answers.antt.
 use Prim.Native.Nat.{ℕ, _+_, _%_, _^_, _<_}
 use mathlib.Core.Path.{_≡_}
 use mathlib.Core.Logic.{_↔_, _≢_}
@@ -14,27 +13,27 @@ use Rattle.evex.specs.declared.Decoded.the-variants.{Fields}
 use Rattle.machine.specs.State.{State, Stepped}
 use Rattle.machine.specs.Step.{conditions, step}
 
--- n stands beside a condition that holds, and none before it does
+-- R4.2: n stands beside a condition that holds, and none before it does
 pub record IsFirst (cs : List (Bool × ℕ)) (n : ℕ) : Type 0 where
   pub earlier : List (Bool × ℕ)
   pub later : List (Bool × ℕ)
   pub order : cs ≡ earlier ++ ((true, n) ∷ later)
   pub none : NoneHolds earlier
 
--- Demand 1, of the number n, where the conditions stand in document 01's order.
+-- R4.2, of the number n, where the conditions stand in their order.
 pub record InOrder (cs : List (Bool × ℕ)) (n : ℕ) : Type 0 where
   -- 0 is given exactly when no condition holds
   pub done : (n ≡ 0) ↔ NoneHolds cs
   -- any other number exactly when its condition holds and no earlier one does
   pub given : (k : ℕ) → k ≢ 0 → (n ≡ k) ↔ IsFirst cs k
 
--- What a step leaves that was given the state s: the table's last column. (The new vector file is in Lanes.antt.)
+-- R4.15, R4.16, R4.17: what a step leaves that was given the state s. (The new vector file is in Lanes.antt.)
 pub record Leaves (s : State) (o : Stepped) : Type 0 where
-  -- 0: "a step moves the pointer by the length, modulo 2 to the 64"
+  -- R4.15, of the pointer
   pub moved : o .answer .number ≡ 0 → o .state .pointer ≡ (s .pointer + o .answer .length) % 2 ^ 64
-  -- 1 to 7: "all as before"
+  -- R4.16, of 1 to 7
   pub before : o .answer .number ≢ 0 → o .answer .number ≢ 8 → o .state ≡ s
-  -- 8: "only flags added to the control word"; flags are its bits 0 to 5
+  -- R4.16, of 8; flags are bits 0 to 5
   pub flagged : o .answer .number ≡ 8
       → (flags : ℕ)
       × (flags < 64)
@@ -46,16 +45,16 @@ pub record Leaves (s : State) (o : Stepped) : Type 0 where
         control = bitOr (s .control) flags;
         pointer = s .pointer;
       })
-  -- "the length is 0 unless the number is 0"
+  -- R4.17
   pub length : o .answer .number ≢ 0 → o .answer .length ≡ 0
 
--- Of every step; `conditions` has the order from 1 to 8.
+-- R4.19: of every step; `conditions` has the order from 1 to 8.
 abbrev pub Answers : Type 0
 Answers =
     (memory : List ℕ) (s : State) (code : List ℕ)
     → InOrder (conditions memory s code) (step memory s code .answer .number) × Leaves s (step memory s code)
 
--- "Bytes after the instruction are not looked at."
+-- R4.18: any other bytes behind the instruction make no difference.
 abbrev pub BytesAfter : Type 0
 BytesAfter =
     (memory : List ℕ) (s : State) (code rest : List ℕ) (i : Instruction)

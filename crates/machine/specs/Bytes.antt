@@ -1,4 +1,4 @@
--- Document 01, 'Lanes and bytes to try': what the bytes given there decode to. The statement; its proof is in proofs/Rows.antt.
+-- docs/RULES.md, R12.2: what the bytes of the examples marked + decode to. The statement; its proof is in proofs/Rows.antt.
 use Prim.Native.Nat.{ℕ}
 use mathlib.Core.Path.{_≡_}
 use mathlib.Core.Bool.{Bool, true, false}
@@ -17,6 +17,8 @@ use Rattle.evex.specs.declared.Operand.the-variants as operand
 use Rattle.evex.specs.declared.Refusal.the-variants.{Reserved}
 use Rattle.evex.specs.declared.Decoded.{Decoded}
 use Rattle.evex.specs.declared.Decoded.the-variants.{Fields, Refused}
+
+-- ---- R12.2
 
 -- 62 F5 74 D9 58 C2 and the like: byte 3, and what follows the opcode
 abbrev bytes : ℕ → List ℕ → List ℕ
@@ -43,6 +45,7 @@ abbrev fromRax : ℤ → Bool → Operand
 fromRax displacement broadcast =
     operand.Memory (record { base = base.General 0; index = index.None; displacement = displacement }) broadcast
 
+-- the statement
 abbrev pub DecodedBytes : Type 0
 DecodedBytes =
     (decoded (bytes 0xD9 (0x40 ∷ 0x01 ∷ [])) ≡ adds Control true 1 (fromRax (pos 2) true) 7)

@@ -1,5 +1,4 @@
--- Document 01, 'Fields of an instruction' and 'Rounding and flags': what a decoded instruction computes. Sources, lanes, flags, the
--- destination's new bytes.
+-- docs/RULES.md, sections 5 and 7: what a decoded instruction computes. Sources, lanes, flags, the destination's new bytes.
 use Prim.Native.Nat.{ℕ, _/_, _%_, _^_}
 use mathlib.Core.Bool.{Bool, cond, not, _&&_}
 use mathlib.Core.List.{List}
@@ -24,55 +23,58 @@ use Rattle.evex.specs.declared.Instruction.{Instruction}
 use Rattle.machine.specs.State.{State, registerAt, lanePlaces, unmaskedFlags, controlMode}
 use Rattle.machine.specs.Memory.{addressFrom, wordFrom, wordBytes, on, nextPointer}
 
--- ---- 01, Fields of an instruction: "In register form with b set .. the length bits are the rounding mode, all six exceptions count
--- as masked and no flag is recorded."
+-- ---- R7.5: what embedded rounding puts in the place of the control word
 
+-- the mode that counts
 abbrev pub roundingMode : Rounding → ℕ → Mode
 roundingMode Control control = controlMode control
 roundingMode (Embedded mode) control = mode
 
+-- R7.3: the exceptions that count as unmasked, as flags
 abbrev pub unmasked : Rounding → ℕ → ℕ
 unmasked Control control = unmaskedFlags control
 unmasked (Embedded mode) control = 0
 
--- UE, bit 4, is unmasked
+-- UE, bit 4, is one of them
 abbrev pub unmaskedUE : Rounding → ℕ → Bool
 unmaskedUE rounding control = isSet (unmasked rounding control) 4
 
+-- R7.2: the control word with flags set in it
 abbrev pub recorded : Rounding → ℕ → ℕ → ℕ
 recorded Control control flags = bitOr control flags
 recorded (Embedded mode) control flags = control
 
--- ---- sources: "All sources are read before the destination is written." "Lanes that are off read nothing": they count as 0.
+-- ---- the sources
 
+-- R5.8: all that an instruction reads, 32 halves each
 pub record Sources : Type 0 where
   pub destination : List ℕ
   pub first : List ℕ
   pub second : List ℕ
 
--- 32 numbers, lane j's by f where it is on
+-- R5.2: 32 numbers, lane j's by f where it is on, and 0 where it is off
 abbrev pub lanesOn : (ℕ → Bool) → (ℕ → ℕ) → List ℕ
 lanesOn on f = table 32 (λ j. cond (on j) (f j) 0)
 
--- a register
+-- R5.3: a register
 unfoldable pub registerHalves : (ℕ → Bool) → List ℕ → ℕ → List ℕ
 registerHalves on vectors n = lanesOn on (λ j. numberAt vectors (lanePlaces n j))
 
--- the words from an address on, or with broadcast the one there
+-- R5.5: the words from an address on, or under broadcast the one there
 unfoldable pub memoryHalves : (ℕ → Bool) → List ℕ → ℕ → Bool → List ℕ
 memoryHalves on memory address broadcast = lanesOn on (λ j. numberAt memory (wordBytes (wordFrom address broadcast j)))
 
--- the first source, or none: "VSQRTPH has one source (r/m)"
+-- R2.2, R5.3: the first source, or none
 abbrev pub firstHalves : (ℕ → Bool) → List ℕ → Source → List ℕ
 firstHalves on vectors source.None = table 32 (λ j. 0)
 firstHalves on vectors (source.Register n) = registerHalves on vectors n
 
--- the second source, a register or memory
+-- R5.3: the second source, a register or memory
 abbrev pub secondHalves : (ℕ → Bool) → List ℕ → List ℕ → List ℕ → ℕ → Operand → List ℕ
 secondHalves on vectors memory general next (operand.Register n) = registerHalves on vectors n
 secondHalves on vectors memory general next (operand.Memory a broadcast) = memoryHalves on memory (addressFrom general next a) broadcast
 
--- of an instruction in a state
+-- R5.8: of an instruction in a state
 unfoldable pub gathered : List ℕ → State → Instruction → Sources
 gathered memory s i =
     record {
@@ -81,8 +83,7 @@ gathered memory s i =
       second = secondHalves (on s i) (s .vectors) memory (s .general) (nextPointer s i) (i .second);
     }
 
--- ---- a lane: "Products: 132 dest*src3+src2; 213 src2*dest+src3; 231 src2*src3+dest", d the destination's lane, f and x those of the
--- first source (src2) and of the second (src3)
+-- ---- R2.1, R2.2: a lane, of d in the destination, f in the first source and x in the second
 
 unfoldable pub laneOutcome : Operation → Mode → Bool → ℕ → ℕ → ℕ → Outcome
 laneOutcome Add m ue d f x = halfAdd m ue f x
@@ -97,27 +98,29 @@ laneOutcome Fused231 m ue d f x = halfMultiplyAdd m ue f x d
 -- ---- all lanes
 
 module _ (s : State) (i : Instruction) (g : Sources) where
+  -- R2.1: lane j's half and flags
   abbrev pub laneOf : ℕ → Outcome
   laneOf j =
       laneOutcome (i .operation) (roundingMode (i .rounding) (s .control)) (unmaskedUE (i .rounding) (s .control))
       (getD (g .destination) j 0) (getD (g .first) j 0) (getD (g .second) j 0)
 
+  -- R5.8: the halves, before one is written
   unfoldable pub results : List ℕ
   results = lanesOn (on s i) (λ j. laneOf j .half)
 
-  -- "Flags of all lanes that are on"
+  -- R7.1: the flags that the instruction raises
   unfoldable pub raised : ℕ
   raised = orAll (lanesOn (on s i) (λ j. laneOf j .flags))
 
-  -- 8: "If any exception raised by this instruction is unmasked"; "flags left from earlier steps cause nothing"
+  -- R7.3: one of them is of an unmasked exception
   unfoldable pub raisesUnmasked : Bool
   raisesUnmasked = not (eqb (bitAnd raised (unmasked (i .rounding) (s .control))) 0)
 
-  -- "or-ed into the control word"
+  -- R7.2, R7.4: the control word after the instruction, be the answer 0 or 8
   unfoldable pub controlAfter : ℕ
   controlAfter = recorded (i .rounding) (s .control) raised
 
--- ---- the destination: lanes that are off "keep the old destination, or become 0 with z. Bytes above the vector length become 0."
+-- ---- R5.9: the destination
 
 -- byte q of the destination's register, that was b
 abbrev pub newByte : State → Instruction → List ℕ → ℕ → ℕ → ℕ

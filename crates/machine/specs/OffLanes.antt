@@ -1,5 +1,5 @@
--- Document 01: "Lanes that are off read nothing, fault nothing and flag nothing." The conditions of 7 and 8 and the flags, spelt out.
--- Their proofs are in proofs/OffLanes.antt; that lanes that are off read nothing is a case of TwoRuns.antt, where they are hidden.
+-- docs/RULES.md, R5.2: lanes that are off take no part. The conditions of 7 and 8 and the flags, spelt out. Their proofs are in
+-- proofs/OffLanes.antt; that nothing is read for such a lane is a case of TwoRuns.antt, where it is hidden.
 use Prim.Native.Nat.{ℕ, _≤_}
 use mathlib.Core.Path.{_≡_}
 use mathlib.Core.Logic.{_↔_, _≢_}
@@ -15,22 +15,22 @@ use Rattle.machine.specs.Lanes.{Sources, unmasked, laneOf, raised, raise
 use Rattle.machine.specs.TwoRuns.{SwitchesOn, Needs}
 
 module _ (s : State) (i : Instruction) where
-  -- 7: an address that is needed, in the very sense of 'Two runs', "lies outside memory"
+  -- R5.7: an address that is needed (R5.6) lies outside memory
   abbrev pub Faults : Type 0
   Faults = (memoryLength : ℕ) → (needsOutside s i memoryLength ≡ true) ↔ ((a : ℕ) × Needs s i a × (memoryLength ≤ a))
 
-  -- 8: a lane that is on raises an exception that is unmasked
+  -- R7.3: a lane that is on raises an exception that is unmasked
   abbrev pub Raises : Type 0
   Raises =
       (g : Sources)
       → (raisesUnmasked s i g ≡ true)
       ↔ ((j : ℕ) × SwitchesOn s i j × (bitAnd (laneOf s i g j .flags) (unmasked (i .rounding) (s .control)) ≢ 0))
 
-  -- of any set of flags one is raised exactly if a lane that is on raises one
+  -- R7.1: of any set of flags one is raised exactly if a lane that is on raises one
   abbrev pub Flags : Type 0
   Flags =
       (g : Sources) (set : ℕ) → (bitAnd (raised s i g) set ≢ 0) ↔ ((j : ℕ) × SwitchesOn s i j × (bitAnd (laneOf s i g j .flags) set ≢ 0))
 
--- Of every instruction.
+-- R5.2: of every instruction.
 abbrev pub OffLanes : Type 0
 OffLanes = (s : State) (code : List ℕ) (i : Instruction) → decoded code ≡ Fields i → Faults s i × Raises s i × Flags s i

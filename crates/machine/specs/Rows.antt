@@ -1,5 +1,5 @@
--- Document 01, 'Lanes and bytes to try': the rows marked *, one statement over the single table `starred` of the arithmetic, shown for the
--- arithmetic and for a step. Its proof is in proofs/Rows.antt.
+-- docs/RULES.md, R12.1: the examples marked *, one statement over the single table `starred` of the arithmetic, shown for the arithmetic
+-- and for a step. Its proof is in proofs/Rows.antt.
 use Prim.Native.Nat.{ℕ, _+_, _*_, _/_, _%_, _^_}
 use mathlib.Core.Path.{_≡_}
 use mathlib.Core.Bool.{cond}
@@ -13,7 +13,7 @@ use Rattle.half.specs.declared.Outcome.{Outcome}
 use Rattle.machine.specs.State.{State, Stepped}
 use Rattle.machine.specs.Step.{step}
 
--- ---- the bytes: a stands in register 1, b in register 2, c in register 0, which is the destination; mask register 1, length bits 10
+-- ---- R12.1, the bytes: a stands in register 1, b in register 2, c in register 0, which is the destination; mask 1, length bits 2
 
 -- VADDPH, VMULPH, VDIVPH of registers 1 and 2; VSQRTPH of register 1; VFMADD231PH, register 1 * register 2 + register 0
 abbrev pub bytesOf : Operation → List ℕ
@@ -23,7 +23,7 @@ bytesOf over = 0x62 ∷ 0xF5 ∷ 0x74 ∷ 0x49 ∷ 0x5E ∷ 0xC2 ∷ []
 bytesOf root = 0x62 ∷ 0xF5 ∷ 0x7C ∷ 0x49 ∷ 0x51 ∷ 0xC1 ∷ []
 bytesOf fused = 0x62 ∷ 0xF6 ∷ 0x75 ∷ 0x49 ∷ 0xB8 ∷ 0xC2 ∷ []
 
--- ---- the state
+-- ---- R12.1, the state
 
 -- 64 bytes with h in lane 0. All other lanes hold 7D7D, a signalling NaN: were one of them on, it would raise IE.
 abbrev register : ℕ → List ℕ
@@ -53,7 +53,8 @@ rowState r d control pointer =
 abbrev pub start : Row → State
 start r = rowState r (r .c) (controlOf r) 0
 
--- ---- what a step is to give: the half in lane 0, its flags in the control word, the pointer moved; with UE unmasked 8, and flags alone
+-- ---- R12.1, what a step is to give: the half in lane 0, its flags in the control word, the pointer moved; with UE unmasked 8, and the
+-- flags alone
 
 abbrev pub after : Row → Stepped
 after r =
@@ -61,7 +62,7 @@ after r =
     (record { answer = record { number = 8; length = 0 }; state = rowState r (r .c) (bitOr (controlOf r) (r .gives .flags)) 0 })
     (record { answer = record { number = 0; length = 6 }; state = rowState r (r .gives .half) (bitOr (controlOf r) (r .gives .flags)) 6 })
 
--- ---- the statement
+-- ---- R12.1, the statement
 
 -- what the definitions give for a row: the arithmetic's, and a step's with the row in lane 0 (and no memory)
 abbrev pub given : Row → Outcome × Stepped

@@ -1,4 +1,4 @@
--- Document 01, 'Numbers the engine gets back': the answer, what it leaves, a step, a run.
+-- docs/RULES.md, section 4: the answer, what it leaves, a step; R11.4: a run.
 use Prim.Native.Nat.{ℕ, _^_}
 use mathlib.Core.Bool.{Bool, false, cond, not}
 use mathlib.Core.List.{List, [], _∷_, _++_, map}
@@ -13,49 +13,49 @@ use Rattle.machine.specs.State.{State, Stepped}
 use Rattle.machine.specs.Memory.{nextPointer, needsOutside}
 use Rattle.machine.specs.Lanes.{gathered, results, raisesUnmasked, controlAfter, vectorsAfter}
 
--- ---- the order of the answers: "1; 2; no bytes (3); byte 0 (4); .. 6; 7; 8"
+-- ---- R4.2: the order of the answers
 
 -- by the instruction, where there is one
 abbrev pub ofFields : {A : Type 0} → Decoded → A → (Instruction → A) → A
 ofFields (Fields i) otherwise f = f i
 ofFields (Refused r) otherwise f = otherwise
 
--- 1: "vector file not 2,048 bytes"
+-- R4.3: the size of the vector file (R1.2)
 unfoldable pub wrongVectorFile : State → Bool
 wrongVectorFile s = not (eqb (length (s .vectors)) 2048)
 
--- 2: "control word has a bit above 15"
+-- R4.4: a bit above bit 15
 unfoldable pub highControlBit : State → Bool
 highControlBit s = leb (2 ^ 16) (s .control)
 
--- 7: "an address needed by a lane that is on lies outside memory"
+-- R4.13: by R5.7
 unfoldable pub outsideMemory : List ℕ → State → Decoded → Bool
 outsideMemory memory s d = ofFields d false (λ (i : Instruction). needsOutside s i (length memory))
 
--- 8: "unmasked numeric exception"
+-- R4.14: by R7.3
 unfoldable pub unmaskedException : List ℕ → State → Decoded → Bool
 unmaskedException memory s d = ofFields d false (λ (i : Instruction). raisesUnmasked s i (gathered memory s i))
 
--- the conditions before 7, with their numbers
+-- R11.5: the conditions before 7, with their numbers: R4.3, R4.4, then those of the bytes
 unfoldable pub beforeSeven : State → List ℕ → List (Bool × ℕ)
 beforeSeven s code = (wrongVectorFile s, 1) ∷ (highControlBit s, 2) ∷ map (λ c. (c .0, numberOf (c .1))) (refusals code)
 
--- all of them
+-- R4.1, R4.2: all of them
 unfoldable pub conditions : List ℕ → State → List ℕ → List (Bool × ℕ)
 conditions memory s code =
     beforeSeven s code ++ ((outsideMemory memory s (decoded code), 7) ∷ (unmaskedException memory s (decoded code), 8) ∷ [])
 
--- the number beside the first that holds; 0, "done", where none does
+-- the number beside the first that holds; 0 where none does
 unfoldable pub answerOf : List ℕ → State → List ℕ → ℕ
 answerOf memory s code = firstOf (conditions memory s code) 0
 
 -- ---- what each answer leaves
 
--- 1 to 7: "all as before"
+-- R4.16, R4.17: 1 to 7 leave everything unchanged
 abbrev pub refused : ℕ → State → Stepped
 refused n s = record { answer = record { number = n; length = 0 }; state = s }
 
--- 8: "only flags added to the control word"
+-- R4.16, R4.17, R7.4: 8 leaves flags in the control word, and all else unchanged
 unfoldable pub stopped : List ℕ → State → Instruction → Stepped
 stopped memory s i =
     record {
@@ -70,7 +70,7 @@ stopped memory s i =
           };
     }
 
--- 0: "new state; a step moves the pointer by the length, modulo 2 to the 64"
+-- R4.15, R4.17: what 0 leaves. R1.4: masks and general registers stay.
 unfoldable pub completed : List ℕ → State → Instruction → Stepped
 completed memory s i =
     record {
@@ -85,17 +85,16 @@ completed memory s i =
           };
     }
 
--- ---- a step, and a run: "A sequence is any number of byte strings, empty ones among them"
+-- ---- a step, and a run
 
--- Where decoding refuses, the answer is one of 1 to 6 (proofs/Ends.antt, `way`).
+-- R4.19. Where decoding refuses, the answer is one of 1 to 6 (proofs/Ends.antt, `way`).
 unfoldable pub step : List ℕ → State → List ℕ → Stepped
 step memory s code =
     let n : ℕ = answerOf memory s code in
     ofFields (decoded code) (refused n s)
     (λ (i : Instruction). cond (eqb n 0) (completed memory s i) (cond (eqb n 8) (stopped memory s i) (refused n s)))
 
--- "In either run a step is given its string, the state that the run's last step left (at first, the start) and the run's memory,
--- which stays as it was." What each step gives.
+-- R11.4: what each step of a sequence gives, from this state on
 unfoldable pub run : List ℕ → State → List (List ℕ) → List Stepped
 run memory s [] = []
 run memory s (code ∷ codes) = step memory s code ∷ run memory (step memory s code .state) codes

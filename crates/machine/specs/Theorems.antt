@@ -1,20 +1,21 @@
--- What is proved of the machine, all in one: proofs/Theorems.antt.
+-- What is proved of the machine, all in one: proofs/Theorems.antt. The clauses are those of docs/RULES.md.
 use Rattle.machine.specs.Answers.{Answers, BytesAfter}
 use Rattle.machine.specs.OffLanes.{OffLanes}
 use Rattle.machine.specs.TwoRuns.{TwoRuns}
 use Rattle.machine.specs.Bytes.{DecodedBytes}
 use Rattle.machine.specs.Rows.{StarredRows}
 
+-- R4.19, R5.2, R11.7, R12.1, R12.2
 pub record Theorems : Type 1 where
-  -- demand 1: which answer is given, and what it leaves
+  -- R4.2, R4.15 to R4.17: which answer is given, and what it leaves
   pub answers : Answers
-  -- and that it turns on no byte after the instruction
+  -- R4.18: and that it turns on no byte behind the instruction
   pub bytesAfter : BytesAfter
-  -- the conditions of 7 and 8, and the flags: lanes that are off fault nothing and flag nothing
+  -- R5.2: the conditions of 7 and 8, and the flags
   pub offLanes : OffLanes
-  -- demand 3: two runs
+  -- R11.7: two runs
   pub twoRuns : TwoRuns
-  -- the bytes of 'Lanes and bytes to try'
+  -- R12.2: bytes of the examples
   pub decodedBytes : DecodedBytes
-  -- the rows marked * of it
+  -- R12.1: examples through a step
   pub starredRows : StarredRows

@@ -1,4 +1,4 @@
--- Document 01, 'Two runs, for demand 3': the statement. Its proof is in proofs/TwoRuns.antt.
+-- docs/RULES.md, section 11: two runs, the statement. Its proof is in proofs/TwoRuns.antt.
 use Prim.Native.Nat.{ℕ, _<_, _/_, _%_}
 use mathlib.Core.Path.{_≡_}
 use mathlib.Core.Bool.{true}
@@ -12,18 +12,16 @@ use Rattle.machine.specs.State.{State, Stepped}
 use Rattle.machine.specs.Memory.{on, bytesRead}
 use Rattle.machine.specs.Step.{beforeSeven, step, run}
 
--- "A lane number is 0 to 31 and names that lane in all 32 registers: byte p of the vector file belongs to the lane whose number is
--- p modulo 64, divided by 2 and rounded down, whatever the file's size."
+-- R11.1: the number of the lane that byte p of a vector file is of
 abbrev pub laneNumber : ℕ → ℕ
 laneNumber p = p % 64 / 2
 
--- Two lists of one length, equal in every open place. Hidden and open are terms of document 01: what is not hidden is open.
+-- R11.2: two lists of the same length that agree in what is open, which is all that is not hidden
 pub record EqualOpen (Hidden : ℕ → Type 0) (l m : List ℕ) : Type 0 where
   pub lengths : length l ≡ length m
   pub places : (p : ℕ) → p < length l → ¬ Hidden p → getD l p 0 ≡ getD m p 0
 
--- Two states: "vector files of one size .. equal in every open byte, and equal control words, masks, general registers and pointers".
--- "Any values are allowed, also those that answers 1 and 2 refuse."
+-- R11.3: two states that are alike. Nothing else is asked of them.
 pub record Alike (HiddenLane : ℕ → Type 0) (s₁ s₂ : State) : Type 0 where
   pub vectors : EqualOpen (λ p. HiddenLane (laneNumber p)) (s₁ .vectors) (s₂ .vectors)
   pub masks : s₁ .masks ≡ s₂ .masks
@@ -31,46 +29,43 @@ pub record Alike (HiddenLane : ℕ → Type 0) (s₁ s₂ : State) : Type 0 wher
   pub control : s₁ .control ≡ s₂ .control
   pub pointer : s₁ .pointer ≡ s₂ .pointer
 
--- "An instruction is decoded when nothing before 7 in the order refuses it." (A term of document 01.)
+-- R11.5: the code is decoded, to this instruction
 abbrev pub IsDecoded : State → List ℕ → Instruction → Type 0
 IsDecoded s code i = NoneHolds (beforeSeven s code) × (decoded code ≡ Fields i)
 
--- "It switches on lane j when j is below its number of lanes and either aaa is 000 or bit j of mask register aaa is one as the step
--- begins." (A term of document 01.)
+-- R5.1, R11.5: it switches on lane j
 abbrev pub SwitchesOn : State → Instruction → ℕ → Type 0
 SwitchesOn s i j = on s i j ≡ true
 
--- "It needs each memory byte of the words that its lanes that are on read, a broadcast word included when any is on." (A term of
--- document 01.)
+-- R5.6, R11.5: it needs the byte at address a
 abbrev pub Needs : State → Instruction → ℕ → Type 0
 Needs s i a = (j : ℕ) × SwitchesOn s i j × List·Memᴰ a (bytesRead s i (i .second) j)
 
 module _ (HiddenLane HiddenByte : ℕ → Type 0) where
-  -- hidden lanes stay off and hidden bytes are not needed; a needed address outside memory is no byte of it, and may count as hidden
+  -- R11.6: of a step. An address outside memory is no byte of it, and may be called hidden.
   pub record HiddenUnused (memory : List ℕ) (s : State) (code : List ℕ) : Type 0 where
     pub lanes : (i : Instruction) → IsDecoded s code i → (j : ℕ) → SwitchesOn s i j → ¬ HiddenLane j
     pub bytes : (i : Instruction) → IsDecoded s code i → (a : ℕ) → Needs s i a → a < length memory → ¬ HiddenByte a
 
-  -- in every step of the run that begins here
+  -- R11.6: of every step of the run that begins here
   abbrev pub HiddenUnusedThroughout : List ℕ → State → List (List ℕ) → Type 0
   HiddenUnusedThroughout memory s [] = Unit {0}
   HiddenUnusedThroughout memory s (code ∷ codes) =
       HiddenUnused memory s code × HiddenUnusedThroughout memory (step memory s code .state) codes
 
--- After a step: answers and lengths are equal too.
+-- R11.7: after a step answers and lengths are equal, and the states alike.
 pub record AlikeAfter (HiddenLane : ℕ → Type 0) (o₁ o₂ : Stepped) : Type 0 where
   pub answers : o₁ .answer ≡ o₂ .answer
   pub states : Alike HiddenLane (o₁ .state) (o₂ .state)
 
--- After every step, and the runs are equally long.
+-- R11.7: after every step, and the runs are equally long.
 abbrev pub AlikeThroughout : (ℕ → Type 0) → List Stepped → List Stepped → Type 0
 AlikeThroughout HiddenLane [] [] = Unit {0}
 AlikeThroughout HiddenLane [] (o₂ ∷ os₂) = ⊥
 AlikeThroughout HiddenLane (o₁ ∷ os₁) [] = ⊥
 AlikeThroughout HiddenLane (o₁ ∷ os₁) (o₂ ∷ os₂) = AlikeAfter HiddenLane o₁ o₂ × AlikeThroughout HiddenLane os₁ os₂
 
--- Demand 3. "What is hidden is chosen once for the whole sequence." "Only of the first run is it supposed that hidden lanes stay off
--- and hidden bytes are not needed." "All this is a single claim about the sequence and its two runs."
+-- R11.7: one statement about all sequences and what is hidden throughout them
 abbrev pub TwoRuns : Type 1
 TwoRuns =
     (HiddenLane HiddenByte : ℕ → Type 0)

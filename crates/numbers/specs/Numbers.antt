@@ -1,4 +1,4 @@
--- Document 01, 'Rounding and flags' and 'Numbers the engine gets back': a mode's number, and answer 9.
+-- docs/RULES.md, R8.1 to R8.3: the arithmetic for a caller who has numbers, and answer 9.
 use Prim.Native.Nat.{ℕ}
 use mathlib.Core.Bool.{Bool, not, cond}
 use lib.Dec.{eqb, ltb}
@@ -9,15 +9,15 @@ use Rattle.numbers.specs.declared.ModeNumber.the-variants.{Means, Above}
 use Rattle.half.specs.declared.Outcome.{Outcome}
 use Rattle.numbers.specs.declared.Rounded.{Rounded}
 
--- "Modes: 0 nearest, ties to even; 1 down; 2 up; 3 toward zero."
+-- R8.2: the number of a mode (R6.4), or one that is too large
 unfoldable pub modeOf : ℕ → ModeNumber
 modeOf n = cond (ltb 3 n) Above (Means (modeOfBits n))
 
--- "a yes or no that says whether underflow is unmasked": 0 is no
+-- R8.3: what the number says that stands for yes or no
 abbrev pub yes : ℕ → Bool
 yes n = not (eqb n 0)
 
--- 01, Numbers the engine gets back: 0, and 9 "rounding mode above 3 (arithmetic alone); the half returned is 0000, no flags"
+-- R4.1, R8.1, R8.2: 0 with what an operation gives in the mode, or 9
 unfoldable pub answered : ModeNumber → (Mode → Outcome) → Rounded
 answered (Means m) f = record { half = (f m) .half; flags = (f m) .flags; number = 0 }
 answered Above f = record { half = 0x0000; flags = 0; number = 9 }

@@ -1,4 +1,4 @@
-// The half arithmetic for callers that have no enum, as C: a mode is a number, and one above 3 is answered 9.
+// The half arithmetic for callers that have no enum, as C: a mode is a number, and one above 3 is answered 9 (R8.1 to R8.3).
 ghost use mathlib.Core.Path.{_≡_};
 ghost use Rattle.numbers.specs.Numbers.{modeOf, yes, answered};
 ghost use Rattle.half.specs.Operations.{halfAdd, halfSubtract, halfMultiply, halfDivide, halfRoot, halfMultiplyAdd};

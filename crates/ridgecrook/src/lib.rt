@@ -1,4 +1,5 @@
-// The C entry points of include/ridgecrook.h and nothing else: each calls the proved function of its crate, and has its contract.
+// The C entry points of include/ridgecrook.h and nothing else: each calls the proved function of its crate, and has its contract, without
+// a precondition (R8.4).
 ghost use mathlib.Core.Path.{_≡_};
 ghost use Rattle.numbers.specs.Numbers.{modeOf, yes, answered};
 ghost use Rattle.half.specs.Operations.{halfAdd, halfSubtract, halfMultiply, halfDivide, halfRoot, halfMultiplyAdd};

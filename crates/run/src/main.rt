@@ -1,4 +1,4 @@
-// The command of document 01, from standard input to standard output. All that it does is the crate `command`.
+// The command, from standard input to standard output (R10.7). All else that it does is the crate `command`.
 ghost use Prim.Native.Nat.{_+_, _≤_};
 ghost use lib.ListN.{length};
 

@@ -1,4 +1,4 @@
--- Document 01, 'Saved state and the command': saving and loading, with their refusals in order.
+-- docs/RULES.md, R9.4 to R9.7: saving and loading, with their refusals in order, and the round trips.
 use Prim.Native.Nat.{ℕ, _<_, _^_}
 use mathlib.Core.Bool.{Bool, false, cond, not}
 use mathlib.Core.List.{List, [], _∷_}
@@ -10,11 +10,11 @@ use Rattle.machine.specs.State.{State}
 use Rattle.machine.specs.Step.{wrongVectorFile, highControlBit}
 use Rattle.saved.specs.Form.{numberIn, followingSize, savedSize, savedForm, loadedState}
 
--- not the size of the house form
+-- R9.4, R9.5: not the size of a saved form
 unfoldable pub wrongSize : List ℕ → Bool
 wrongSize bytes = not (eqb (length bytes) savedSize)
 
--- ---- saving: "Saving checks in order the vector file's size, the target's size (both 1), control word (2)."
+-- ---- R9.4: saving
 
 unfoldable pub saveConditions : State → List ℕ → List (Bool × ℕ)
 saveConditions s target = (wrongVectorFile s, 1) ∷ (wrongSize target, 1) ∷ (highControlBit s, 2) ∷ []
@@ -24,13 +24,13 @@ pub record Save : Type 0 where
   pub number : ℕ
   pub target : List ℕ
 
+-- R9.6: refused, the target stays
 unfoldable pub save : State → List ℕ → Save
 save s target =
     let n : ℕ = firstOf (saveConditions s target) 0 in
     record { number = n; target = cond (eqb n 0) (savedForm s) target }
 
--- ---- loading: "Loading checks in order the size of the lent vector file (1), total size, length field and version (10), control word
--- (2); refused, it hands back the state it was given."
+-- ---- R9.5: loading
 
 unfoldable pub wrongLength : List ℕ → Bool
 wrongLength bytes = not (eqb (numberIn bytes 0 4) followingSize)
@@ -38,6 +38,7 @@ wrongLength bytes = not (eqb (numberIn bytes 0 4) followingSize)
 unfoldable pub wrongVersion : List ℕ → Bool
 wrongVersion bytes = not (eqb (getD bytes 4 0) 1)
 
+-- R4.1
 unfoldable pub loadConditions : List ℕ → State → List (Bool × ℕ)
 loadConditions bytes s =
     (wrongVectorFile s, 1)
@@ -52,12 +53,13 @@ pub record Load : Type 0 where
   pub number : ℕ
   pub state : State
 
+-- R9.6: refused, the state stays
 unfoldable pub load : List ℕ → State → Load
 load bytes s =
     let n : ℕ = firstOf (loadConditions bytes s) 0 in
     record { number = n; state = cond (eqb n 0) (loadedState bytes) s }
 
--- ---- round trips
+-- ---- R9.7: round trips
 
 -- A state that the machine's registers can hold: what the round trip supposes of a state. Its vector file may have any size.
 pub record Held (s : State) : Type 0 where
@@ -67,13 +69,13 @@ pub record Held (s : State) : Type 0 where
   pub general : Each (λ g. g < 2 ^ 64) (s .general)
   pub pointer : s .pointer < 2 ^ 64
 
--- "Loading what was saved gives the same state": into any state whose vector file has its size.
+-- Save, then load into any state whose vector file has its size.
 abbrev pub LoadAfterSave : Type 0
 LoadAfterSave =
     (s t : State) (target : List ℕ) → Held s → save s target .number ≡ 0 → wrongVectorFile t ≡ false
     → load (save s target .target) t ≡ record { number = 0; state = s }
 
--- "and saving what was loaded gives the same bytes": into any target of the right size.
+-- Load, then save into any target of the right size.
 abbrev pub SaveAfterLoad : Type 0
 SaveAfterLoad =
     (bytes target : List ℕ) (t : State) → Each (λ b. b < 256) bytes → length target ≡ savedSize → load bytes t .number ≡ 0

@@ -1,4 +1,4 @@
-// The saved form of the machine's state (document 01, 'Saved state and the command').
+// The saved form of the machine's state (R9.1 to R9.7).
 ghost use mathlib.Core.Path.{_≡_};
 ghost use lib.ListN.{length};
 ghost use Rattle.machine.specs.State.{stateOf};
@@ -18,7 +18,7 @@ fn put_numbers(part: &mut [u8], control: u32, pointer: u64, general: &[u64; 16],
     parts::put_registers(&mut part[140..204], masks);
 }
 
-// The state into the target. 0, or the number of what is wrong first, with the target as it was.
+// R9.4: the state into the target. 0, or the number of what is wrong first, with the target as it was.
 pub fn save(
     vectors: &[u8],
     masks: &[u64; 8],
@@ -48,7 +48,7 @@ pub fn save(
     0
 }
 
-// The state that the bytes hold, into what is lent. 0, or the number of what is wrong first, with the state as it was.
+// R9.5: the state that the bytes hold, into what is lent. 0, or the number of what is wrong first, with the state as it was.
 pub fn load(
     saved: &[u8],
     vectors: &mut [u8],

@@ -1,4 +1,4 @@
-// Parts of the saved form: numbers, registers, bytes. A part is lent, so its length says how many bytes there are.
+// Parts of the saved form (R9.2): numbers, registers, bytes. A part is lent, so its length says how many bytes there are.
 ghost use mathlib.Core.Path.{_≡_};
 ghost use Prim.Native.Nat.{_*_, _/_, _%_, _^_, _≤_, _<_};
 ghost use lib.ListN.{length};

@@ -1,4 +1,4 @@
--- What the parts of a step compute, over the numbers that they are given. Used by the code, nothing to believe: the laws of
+-- What the parts of a step compute, over the numbers that they are given. No clause: used by the code, nothing to believe. The laws of
 -- proofs/Meaning.antt tie each to the definition of the machine that it serves.
 use Prim.Native.Nat.{ℕ, _/_, _%_, _^_}
 use mathlib.Core.Bool.{Bool, false, cond, not, _&&_}

@@ -1,4 +1,4 @@
-// Addresses: sums modulo 2 to the 64.
+// Addresses (R5.4) and the words at them (R5.5, R5.7).
 ghost use mathlib.Core.Path.{_≡_};
 ghost use Prim.Native.Nat.{_%_, _^_, _<_};
 ghost use mathlib.Core.Bool.{_&&_};
@@ -59,7 +59,7 @@ pub(crate) fn address(a: Address, general: &[u64; 16], next: u64) -> u64
     std::num::wrapping_add_u64(sum, wrapped(a.displacement))
 }
 
-// Where lane j's word begins. With broadcast all lanes read the first.
+// R5.5: where lane j's word begins.
 pub(crate) fn word_from(at: u64, broadcast: bool, j: usize) -> u64
     requires { ⌜ j < 32 ⌝ }
     ensures { λ r. ⌜ r ≡ wordFrom at broadcast j ⌝ }
@@ -95,7 +95,7 @@ fn words_outside(on: u64, length: u64, at: u64, broadcast: bool) -> bool
     found
 }
 
-// A lane that is on needs an address outside a memory of this length.
+// R5.7: a lane that is on needs a byte outside a memory of this length.
 pub(crate) fn is_outside(
     on: u64,
     length: u64,

@@ -1,4 +1,4 @@
-// The control word (MXCSR): flags in bits 0 to 5, their masks in 7 to 12, the rounding mode in 13 and 14.
+// The control word (R1.5), and what embedded rounding puts in its place (R7.5).
 ghost use mathlib.Core.Path.{_≡_};
 ghost use mathlib.Core.Bool.{not};
 ghost use lib.Bits.{bitAnd, bitOr};
@@ -34,7 +34,7 @@ impl Control {
         }
     }
 
-    // Embedded rounding gives its own mode, counts all exceptions as masked, and records none.
+    // R7.5: embedded rounding has its own mode, every exception masked, and no flag set.
 
     pub(crate) fn rounding_mode(self, rounding: Rounding) -> Mode
         ensures { λ r. ⌜ r ≡ roundingMode rounding (self .bits) ⌝ }
@@ -70,7 +70,7 @@ impl Control {
         }
     }
 
-    // One of the flags is of an exception that is not masked.
+    // R7.3: one of the flags is of an exception that is not masked.
     pub(crate) fn raises(self, rounding: Rounding, flags: u8) -> bool
         ensures { λ r. ⌜ r ≡ not (eqb (bitAnd flags (unmasked rounding (self .bits))) 0) ⌝ }
     {

@@ -1,4 +1,4 @@
-// The arithmetic of the lanes: 32 results by value, and all flags or-ed.
+// The arithmetic of the lanes (R2.1): 32 results by value, and all flags or-ed (R7.1).
 ghost use mathlib.Core.Path.{_≡_};
 ghost use mathlib.Core.Bool.{cond};
 ghost use Rattle.evex.specs.Bits.{isSet};

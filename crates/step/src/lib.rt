@@ -1,4 +1,4 @@
-// One step of the machine, in the order of document 01.
+// One step of the machine, in the order of R4.2.
 ghost use mathlib.Core.Path.{_≡_};
 ghost use lib.ListN.{length};
 ghost use Rattle.evex.specs.Bits.{isSet};
@@ -27,7 +27,7 @@ mod mask;
 mod sources;
 mod store;
 
-// An answer other than 0: its length is 0.
+// R4.17: an answer other than 0 has length 0.
 fn ended(number: u32) -> Answer
     ensures { λ r. ⌜ r ≡ record { number = number; length = 0 } ⌝ }
 {
@@ -43,7 +43,7 @@ fn refusal_number(d: Decoded) -> u32
     }
 }
 
-// The lanes are computed: an unmasked exception, or the destination written and the pointer moved.
+// The lanes are computed: an unmasked exception (R4.16), or the destination written and the pointer moved (R4.15).
 fn finish(
     vectors: &mut [u8],
     control: &mut u32,
@@ -77,7 +77,7 @@ fn finish(
     }
 }
 
-// A decoded instruction: all sources are gathered, and all lanes computed, before anything is written.
+// A decoded instruction. R5.8: all sources are gathered, and all lanes computed, before anything is written.
 fn execute(
     vectors: &mut [u8],
     masks: &[u64; 8],
@@ -114,7 +114,7 @@ fn execute(
     finish(vectors, control, pointer, i, on, next, results)
 }
 
-// Every step returns the number of document 01 and the instruction's length, 0 unless the number is 0.
+// R4.19. The answer has the number (R4.1) and the length (R4.17).
 pub fn step(
     vectors: &mut [u8],
     masks: &mut [u64; 8],

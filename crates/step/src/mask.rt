@@ -20,7 +20,7 @@ fn below(lanes: usize) -> u64
     (1 << lanes) - 1
 }
 
-// The lanes that are on.
+// R5.1: the lanes that are on.
 pub(crate) fn lanes_on(masks: &[u64; 8], mask: usize, lanes: usize) -> u64
     requires { ⌜ (mask < 8) × (lanes ≤ 32) ⌝ }
     ensures { λ r. ⌜ isSet r ≡ isOn (now (masks .entry)) mask lanes ⌝ }
@@ -31,7 +31,7 @@ pub(crate) fn lanes_on(masks: &[u64; 8], mask: usize, lanes: usize) -> u64
     masks[mask] & below(lanes)
 }
 
-// The lanes that are off and keep the old destination.
+// R5.9: the lanes that are off and keep their half.
 pub(crate) fn lanes_kept(on: u64, lanes: usize, zeroing: bool) -> u64
     requires { ⌜ lanes ≤ 32 ⌝ }
     ensures { λ r. ⌜ isSet r ≡ keptBy (isSet on) lanes zeroing ⌝ }

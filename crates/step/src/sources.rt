@@ -1,4 +1,4 @@
-// The three sources, each as 32 halves by value. A lane that is off reads nothing, and has 0.
+// The three sources (R5.3, R5.5), each as 32 halves by value. For a lane that is off nothing is read (R5.2), and it has 0.
 ghost use mathlib.Core.Path.{_≡_};
 ghost use mathlib.Core.Bool.{false, cond};
 ghost use mathlib.Core.List.{[], _∷_};

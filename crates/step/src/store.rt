@@ -1,4 +1,4 @@
-// The destination: the lanes that are not kept are written, with 0 where they are off; the others are left in place.
+// The destination (R5.9): the lanes that are not kept are written, with 0 where they are off; the others are left in place.
 ghost use mathlib.Core.Path.{_≡_};
 ghost use mathlib.Core.Bool.{cond};
 ghost use Prim.Native.Nat.{_+_, _*_, _/_, _%_, _<_};

@@ -30,7 +30,7 @@ fn extended_control() -> u32 {
     low
 }
 
-/// The APX edition of the encoding (M-110) gives two reserved bits a meaning.
+/// With APX the two fixed bits of R4.8 have a meaning.
 pub fn has_extended_prefix() -> bool {
     __cpuid_count(7, 0).eax >= 1 && __cpuid_count(7, 1).edx >> 21 & 1 == 1
 }

@@ -1,4 +1,4 @@
-//! What the command prints by document 01 ('Saved state and the command').
+//! What the command prints (R10.1 to R10.5).
 
 use super::saved::{load, SAVED_SIZE};
 use super::step;
@@ -12,13 +12,12 @@ pub const MEMORY_LIMIT: usize = 32_768;
 pub fn output(input: &[u8]) -> String {
     match parts(input) {
         Some((machine, code, memory)) => run(machine, code, memory),
-        // 'Other input prints only `bad input`.'
+        // R10.2: whatever is wrong with it
         None => "bad input\n".to_string(),
     }
 }
 
-/// 'a saved state, a 2-byte big-endian code length (at most 4,096), the code, then memory (at most
-/// 32,768 bytes)'
+/// R10.1: the state, the code and the memory, where none of them is missing, too long or wrong.
 fn parts(input: &[u8]) -> Option<(Machine, &[u8], &[u8])> {
     let (saved, rest) = input.split_at_checked(SAVED_SIZE)?;
     let machine = load(saved, VECTORS_SIZE).ok()?;
@@ -34,9 +33,7 @@ fn parts(input: &[u8]) -> Option<(Machine, &[u8], &[u8])> {
     Some((machine, code, memory))
 }
 
-/// 'Each step is given the code from the present offset on and prints `offset number control`, the
-/// last in eight lower-case hex digits, as it stands after. It ends at the end of code or after a
-/// number other than 0 and prints `stop offset`.'
+/// R10.3, R10.4, R10.5: a line for each step, and the last.
 fn run(machine: Machine, code: &[u8], memory: &[u8]) -> String {
     let mut text = String::new();
     let mut next = Step {
@@ -51,7 +48,7 @@ fn run(machine: Machine, code: &[u8], memory: &[u8]) -> String {
         next = outcome.after;
         let (number, control) = (outcome.answer.number, next.machine.control);
         writeln!(text, "{offset} {number} {control:08x}").expect("a string takes all");
-        // The length is 0 unless the number is 0, so a refusal leaves the offset.
+        // R4.17: with a refusal the length is 0, so the offset stays.
         offset += outcome.answer.length as usize;
         if number != 0 {
             break;

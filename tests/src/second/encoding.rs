@@ -1,9 +1,9 @@
-//! Document 01, 'Fields of an instruction': the bytes of one instruction taken apart, with the
-//! refusals that depend on the bytes alone, in the order of 'Numbers the engine gets back'.
+//! The bytes of one instruction taken apart (R3.1 to R3.14), with the refusals that depend on the
+//! bytes alone (R4.5 to R4.12), in their order.
 
 use crate::case::Operation;
 
-/// A row of document 01's table of instructions. The prefix is numbered as in byte 2.
+/// A row of the table of R2.1. The prefix is numbered as in byte 2 (R3.3).
 pub struct Listed {
     pub name: &'static str,
     pub prefix: u8,
@@ -11,8 +11,7 @@ pub struct Listed {
     pub w: u8,
     pub opcode: u8,
     pub operation: Operation,
-    /// The operands in the order of the operation: for fused forms multiplicand, multiplier,
-    /// addend.
+    /// The operands in the order of the operation (R6.6).
     pub operands: &'static [Source],
 }
 
@@ -58,8 +57,7 @@ pub const LIST: [Listed; 8] = [
     plain("vsubph", 0x5C, Operation::Subtract),
     plain("vdivph", 0x5E, Operation::Divide),
     plain("vsqrtph", 0x51, Operation::SquareRoot),
-    // 132 dest*src3+src2; 213 src2*dest+src3; 231 src2*src3+dest, where src2 is the first source
-    // and src3 the r/m operand.
+    // Multiplicand, multiplier, addend.
     fused(
         "vfmadd132ph",
         0x98,
@@ -103,7 +101,7 @@ pub struct Address {
     pub base: Base,
     /// The number of a general register, and what it is multiplied by.
     pub index: Option<(usize, u64)>,
-    /// Signed, and multiplied by N already where it has 8 bits.
+    /// In bytes: multiplied by N already where it has one byte.
     pub displacement: i64,
     pub displacement_bytes: usize,
 }
@@ -127,7 +125,7 @@ fn inverted(byte: u8, number: u32) -> usize {
 
 /// The instruction, or the number of the first refusal that applies.
 pub fn decode(code: &[u8]) -> Result<Instruction, u32> {
-    // 'no bytes (3); byte 0 (4); fewer than six bytes (3)'
+    // R4.5, R4.6, R4.7: no code, another byte 0, less than six bytes
     if code.is_empty() {
         return Err(3);
     }
@@ -137,21 +135,19 @@ pub fn decode(code: &[u8]) -> Result<Instruction, u32> {
     if code.len() < 6 {
         return Err(3);
     }
-    // 'byte 1 bit 3 set or byte 2 bit 2 clear (5)'
+    // R4.8: fixed bits
     if bit(code[1], 3) == 1 || bit(code[2], 2) == 0 {
         return Err(5);
     }
-    // 'not in the list (4)'
+    // R4.9: no row
     let listed = find(code).ok_or(4_u32)?;
-    // 'length bits 11 outside the embedded-rounding form, z with aaa 000, or VSQRTPH with a first
-    // source (5)'
+    // R4.10: reserved forms
     if has_reserved_length(code) || zeroes_without_mask(code) || has_needless_first(listed, code) {
         return Err(5);
     }
-    // 'missing SIB or displacement bytes (3)'
+    // R4.11: bytes that are not there
     let (second, length) = second_source(code).ok_or(3_u32)?;
-    // '6': an instruction longer than 15 bytes. The longest listed form has 11, so no input gives
-    // this answer.
+    // R4.12. The longest instruction has 11 bytes, so no input gives this answer.
     if length > 15 {
         return Err(6);
     }
@@ -172,7 +168,7 @@ fn fields(listed: &'static Listed, code: &[u8], second: Second, length: usize) -
     }
 }
 
-/// The row with the prefix, map, W and opcode of the bytes.
+/// R4.9: the row with the prefix, map, W and opcode of the bytes.
 fn find(code: &[u8]) -> Option<&'static Listed> {
     let (map, prefix, w, opcode) = (code[1] & 7, code[2] & 3, bit(code[2], 7), code[4]);
     LIST.iter()
@@ -183,11 +179,12 @@ fn length_bits(code: &[u8]) -> u8 {
     code[3] >> 5 & 3
 }
 
+/// R3.5: mod 3.
 fn is_register_form(code: &[u8]) -> bool {
     code[5] >> 6 == 3
 }
 
-/// 'In register form with b set': the length bits are the rounding mode.
+/// R3.8: b in register form.
 fn is_embedded_rounding(code: &[u8]) -> bool {
     is_register_form(code) && bit(code[3], 4) == 1
 }
@@ -204,13 +201,13 @@ fn zeroes_without_mask(code: &[u8]) -> bool {
     bit(code[3], 7) == 1 && mask(code) == 0
 }
 
-/// 'VSQRTPH has one source (r/m) and its five first-source bits must be stored as ones.'
+/// R4.10: VSQRTPH has no first source, so its five bits must stand for number 0.
 fn has_needless_first(listed: &Listed, code: &[u8]) -> bool {
     let takes_first = listed.operands.contains(&Source::First);
     !takes_first && first_source(code) != 0
 }
 
-/// 'Length bits 00, 01, 10 mean 8, 16, 32 lanes'; 32 with embedded rounding.
+/// R3.7, R3.8: by the length bits, but 32 with embedded rounding.
 fn lanes(code: &[u8]) -> usize {
     match length_bits(code) {
         _ if is_embedded_rounding(code) => 32,
@@ -220,12 +217,12 @@ fn lanes(code: &[u8]) -> usize {
     }
 }
 
-/// 'Destination: R' R reg.' R is byte 1 bit 7, R' is byte 1 bit 4.
+/// R3.6: R' is byte 1 bit 4, R byte 1 bit 7, then reg.
 fn destination(code: &[u8]) -> usize {
     16 * inverted(code[1], 4) + 8 * inverted(code[1], 7) + usize::from(code[5] >> 3 & 7)
 }
 
-/// 'First source: V' vvvv.' V' is byte 3 bit 3, vvvv are byte 2 bits 6 to 3, all inverted.
+/// R3.6: V' is byte 3 bit 3, vvvv byte 2 bits 6 to 3, all inverted.
 fn first_source(code: &[u8]) -> usize {
     16 * inverted(code[3], 3) + usize::from(!code[2] >> 3 & 15)
 }
@@ -242,12 +239,12 @@ fn b(code: &[u8]) -> usize {
 /// The r/m operand and the length of the instruction; none where bytes are missing.
 fn second_source(code: &[u8]) -> Option<(Second, usize)> {
     let (mode, rm) = (code[5] >> 6, code[5] & 7);
-    // 'Second source with mod 3: X B rm.'
+    // R3.6: a register
     if mode == 3 {
         let register = 16 * x(code) + 8 * b(code) + usize::from(rm);
         return Some((Second::Register(register), 6));
     }
-    // 'rm 100 takes a SIB byte'
+    // R3.9: rm 4
     let takes_sib = rm == 4;
     let (base, index) = if takes_sib {
         from_sib(code, *code.get(6)?)
@@ -267,10 +264,10 @@ fn second_source(code: &[u8]) -> Option<(Second, usize)> {
     Some((second, at + displacement_bytes))
 }
 
-/// The base without a SIB byte. X is not read.
+/// The base without a SIB byte; X has no say (R3.10).
 fn from_rm(code: &[u8]) -> Base {
     let (mode, rm) = (code[5] >> 6, code[5] & 7);
-    // 'rm 101 with mod 0 is a 32-bit displacement relative to the next instruction.'
+    // R3.11: 5 with mod 0 is the case apart.
     if rm == 5 && mode == 0 {
         Base::NextInstruction
     } else {
@@ -281,10 +278,10 @@ fn from_rm(code: &[u8]) -> Base {
 /// Base and index by a SIB byte.
 fn from_sib(code: &[u8], sib: u8) -> (Base, Option<(usize, u64)>) {
     let (mode, scale, index, base) = (code[5] >> 6, sib >> 6, sib >> 3 & 7, sib & 7);
-    // 'index 100 with X stored as one means no index': it is number 4.
+    // R3.10: number 4 is none.
     let number = 8 * x(code) + usize::from(index);
     let index = (number != 4).then(|| (number, 1 << scale));
-    // 'base 101 with mod 0 means no base and a 32-bit displacement'
+    // R3.11: here the case apart has no base.
     let base = if base == 5 && mode == 0 {
         Base::None
     } else {
@@ -294,7 +291,7 @@ fn from_sib(code: &[u8], sib: u8) -> (Base, Option<(usize, u64)>) {
 }
 
 /// The displacement that begins at a byte, and how many bytes it has; none where one is missing.
-/// Without a base in a general register mod 0 has 32 bits.
+/// R3.12: mod 0 has four bytes where no register is the base.
 fn displacement(code: &[u8], at: usize, base: Base) -> Option<(i64, usize)> {
     let mode = code[5] >> 6;
     let is_long = mode == 2 || mode == 0 && !matches!(base, Base::General(_));
@@ -305,7 +302,7 @@ fn displacement(code: &[u8], at: usize, base: Base) -> Option<(i64, usize)> {
     if mode == 0 {
         return Some((0, 0));
     }
-    // 'An 8-bit one is multiplied by N: 16, 32 or 64 by lane count, or 2 with b (broadcast).'
+    // R3.13: N
     let n = if bit(code[3], 4) == 1 {
         2
     } else {

@@ -1,4 +1,4 @@
-//! Exact results: 'fractions of whole numbers, and a root by comparing squares'.
+//! Exact results (R6.16).
 
 use std::cmp::Ordering;
 

@@ -1,4 +1,4 @@
-//! The fields of a half: 1 sign, 5 exponent (bias 15) and 10 fraction bits.
+//! A half and its fields (R6.1 to R6.3).
 
 pub const INFINITY: u16 = 0x7C00;
 pub const LARGEST: u16 = 0x7BFF;

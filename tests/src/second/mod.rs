@@ -1,10 +1,9 @@
-//! The independent second program: the half arithmetic of document 01 ('Rounding and flags') in
-//! plain whole numbers, and the machine above it, slow and obvious. It shares no code with the
-//! library.
+//! The independent second program: the rules of docs/RULES.md in plain whole numbers, slow and
+//! obvious. It shares no code with the library.
 //!
-//! `operations` has rules 1 to 3 and the exact values, `rounding` has rule 4; `encoding` has the
-//! bytes of an instruction, `step` all else of a step; `saved` has the saved form, `command` what
-//! the command prints.
+//! `operations` has R6.5 to R6.16, `rounding` R6.17 to R6.24; `encoding` has the bytes of an
+//! instruction (sections 2 and 3), `step` all else of a step (4, 5 and 7); `saved` has the saved
+//! form (9), `command` what the command prints (10).
 
 pub mod command;
 pub mod encoding;
@@ -22,9 +21,9 @@ use rounding::Mode;
 pub use saved::transfer;
 pub use step::step;
 
-/// What document 01 answers to a case.
+/// What the rules answer to a case.
 pub fn answer(case: &Case) -> Outcome {
-    // 01, 'Numbers the engine gets back', 9: a rounding mode above 3.
+    // R8.2: a mode above 3
     let Some(mode) = Mode::numbered(case.mode) else {
         return Outcome {
             half: 0,

@@ -1,5 +1,5 @@
-//! Rules 1 to 3 of document 01, what it says of infinities and of the signs of zeros, and the
-//! exact value that is left to be rounded.
+//! R6.5 to R6.15: what is decided without rounding, and else the exact value that is left to be
+//! rounded.
 
 use super::exact::{Magnitude, Value};
 use super::half::*;
@@ -13,16 +13,16 @@ pub enum Stage {
     Exact { value: Value, flags: u8 },
 }
 
-/// The rules in document 01's order: the first that applies.
+/// R6.5: the order of the rules.
 pub fn before_rounding(case: &Case, mode: Mode) -> Stage {
     let written = case.used_operands();
-    // 1. A NaN operand, in the order as written.
+    // R6.6: the first NaN
     if let Some(&nan) = written.iter().find(|&&half| is_nan(half)) {
         let signalling = written.iter().any(|&half| is_signalling(half));
         return decided(made_quiet(nan), if signalling { IE } else { 0 });
     }
     let (operation, operands) = without_subtraction(case);
-    // 2. Invalid, and a finite non-zero number divided by zero.
+    // R6.7, R6.8: no number, and division by zero
     if is_invalid(operation, operands) {
         return decided(0xFE00, IE);
     }
@@ -30,10 +30,10 @@ pub fn before_rounding(case: &Case, mode: Mode) -> Stage {
     if operation == Operation::Divide && is_zero(b) && !is_infinite(a) {
         return decided(signed(signs_differ(a, b), INFINITY), ZE);
     }
-    // 3. A subnormal operand gives DE, beside what follows.
+    // R6.9: DE beside what is left
     let some_subnormal = written.iter().any(|&half| is_subnormal(half));
     let flags = if some_subnormal { DE } else { 0 };
-    // 'Where an infinity takes part and neither 1 nor 2 applies'
+    // R6.10: infinities
     if let Some(half) = with_infinity(operation, operands) {
         return decided(half, flags);
     }
@@ -47,7 +47,7 @@ fn decided(half: u16, flags: u8) -> Stage {
     Stage::Decided { half, flags }
 }
 
-/// Where no operand is a NaN, a - b is a + (-b).
+/// R6.13, where no operand is a NaN.
 fn without_subtraction(case: &Case) -> (Operation, [u16; 3]) {
     let [a, b, c] = case.operands;
     match case.operation {
@@ -60,8 +60,7 @@ fn signs_differ(a: u16, b: u16) -> bool {
     is_negative(a) != is_negative(b)
 }
 
-/// 'Infinities that cancel, 0 times infinity, 0/0, infinity/infinity, root of a negative
-/// non-zero.'
+/// R6.7: whether there is no number to give.
 fn is_invalid(operation: Operation, [a, b, c]: [u16; 3]) -> bool {
     let zero_times_infinity = is_zero(a) && is_infinite(b) || is_infinite(a) && is_zero(b);
     match operation {
@@ -79,7 +78,7 @@ fn is_invalid(operation: Operation, [a, b, c]: [u16; 3]) -> bool {
     }
 }
 
-/// 'The exact infinity or zero that IEEE 754 gives', where an operand is infinite.
+/// R6.10, where an operand is infinite.
 fn with_infinity(operation: Operation, [a, b, c]: [u16; 3]) -> Option<u16> {
     let product = signed(signs_differ(a, b), INFINITY);
     let factor = is_infinite(a) || is_infinite(b);
@@ -96,7 +95,7 @@ fn with_infinity(operation: Operation, [a, b, c]: [u16; 3]) -> Option<u16> {
     }
 }
 
-/// 2 to the 24, times which every finite half is a whole number.
+/// 2 to the 24: the unit of R6.3 goes into 1 so often.
 const SCALE: u128 = 1 << 24;
 
 /// The exact result of finite operands, or the zero that it is.
@@ -119,7 +118,7 @@ fn finite(operation: Operation, [a, b, c]: [u16; 3], mode: Mode) -> Result<Value
             negative: signs_differ(a, b),
             magnitude: Magnitude::fraction(whole(a), whole(b)),
         }),
-        // The root of -0 is -0.
+        // R6.14: the root of a zero is that zero.
         Operation::SquareRoot if is_zero(a) => Err(a),
         Operation::SquareRoot => Ok(Value {
             negative: false,
@@ -157,7 +156,7 @@ fn sum(first: Term, second: Term, mode: Mode) -> Result<Value, u16> {
     if units > 0 {
         return Ok(Term { negative, units }.value());
     }
-    // 'A zero sum of unlike signs is +0, or -0 in mode 1; like signs keep theirs.'
+    // R6.12: the sign of a zero sum
     let negative_zero = if alike { negative } else { mode == Mode::Down };
     Err(signed(negative_zero, 0))
 }

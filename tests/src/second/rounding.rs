@@ -1,4 +1,4 @@
-//! Rule 4 of document 01: an exact result other than zero becomes a half and flags.
+//! R6.17 to R6.24: an exact result other than zero becomes a half and flags.
 
 use super::exact::{Magnitude, Value};
 use super::half::{signed, units, INFINITY, LARGEST};
@@ -24,7 +24,7 @@ impl Mode {
         }
     }
 
-    /// Whether a value strictly between two neighbours becomes the one of larger magnitude.
+    /// R6.17: whether a value strictly between two neighbours becomes the one of larger magnitude.
     /// `middle` is how its magnitude compares with the middle of the two, `odd` is said of the
     /// neighbour of smaller magnitude.
     fn goes_outward(self, negative: bool, odd: bool, middle: Ordering) -> bool {
@@ -36,7 +36,7 @@ impl Mode {
         }
     }
 
-    /// What becomes of an overflow: infinity or 7BFF, of either sign, by mode.
+    /// R6.20: what becomes of an overflow.
     fn overflow(self, negative: bool) -> u16 {
         let magnitude = match self {
             Mode::Nearest => INFINITY,
@@ -49,25 +49,25 @@ impl Mode {
 }
 
 pub fn round(value: &Value, mode: Mode, underflow_unmasked: bool) -> (u16, u8) {
-    // 'Round to 11 significant bits with no exponent limit.'
+    // R6.19: without limits on the exponent
     let rounded = significant(value, mode);
-    // 'Magnitude 65,536 or more: OE and PE, and infinity or 7BFF/FBFF by mode.'
+    // R6.20: overflow
     if !rounded.is_below(1, 16) {
         return (mode.overflow(value.negative), OE | PE);
     }
-    // 'Non-zero magnitude below 2 to the -14 is tiny.'
+    // R6.21: below the smallest normal half
     let tiny = rounded.is_below(1, -14);
-    // 'The delivered half is the exact value rounded once on the half grid.'
+    // R6.18: rounded once more, from the exact value
     let (half, exact) = on_the_grid(value, mode);
-    // 'PE if it differs from the exact value.'
+    // R6.22: PE
     let inexact = !exact;
-    // 'UE if tiny and either UE is unmasked or PE holds.'
+    // R6.23: UE
     let underflow = tiny && (underflow_unmasked || inexact);
     let flags = if inexact { PE } else { 0 } | if underflow { UE } else { 0 };
     (half, flags)
 }
 
-/// The magnitude rounded to 11 significant bits, whatever the exponent.
+/// R6.19: the magnitude rounded to 11 significant bits, whatever the exponent.
 fn significant(value: &Value, mode: Mode) -> Magnitude {
     let x = &value.magnitude;
     let (count, unit) = eleven_bits(x);
@@ -97,8 +97,8 @@ pub fn fits_eleven_bits(value: &Value) -> bool {
     value.magnitude.compare(count, unit) == Ordering::Equal
 }
 
-/// The exact value rounded once on the half grid, and whether it was a half already. The value is
-/// not to be one that overflows.
+/// R6.18: the value rounded to a half, and whether it was one already. It is not to be one that
+/// overflows.
 fn on_the_grid(value: &Value, mode: Mode) -> (u16, bool) {
     let x = &value.magnitude;
     let below = half_not_above(x);

@@ -1,14 +1,14 @@
-//! The saved form by document 01 ('Saved state and the command').
+//! The saved form (R9.1 to R9.6).
 
 use crate::machine::{Machine, VECTORS_SIZE};
 use crate::transfer::{Direction, Transfer, TransferOutcome};
 
-/// 'a 4-byte length of what follows (2,253)', and so '2,257 bytes' in all.
+/// R9.1: 4 bytes for the number of those that follow, and those.
 pub const SAVED_SIZE: usize = 2257;
 const FOLLOWING: u32 = 2253;
 const VERSION: u8 = 1;
 
-/// What document 01 answers to a save or a load and leaves of it: refused, 'all as before'.
+/// What the rules answer to a save or a load and leave of it: refused, nothing changes (R9.6).
 pub fn transfer(before: &Transfer) -> TransferOutcome {
     let mut after = before.clone();
     let result = match before.direction {
@@ -25,7 +25,7 @@ pub fn transfer(before: &Transfer) -> TransferOutcome {
     }
 }
 
-/// 'Saving checks in order the vector file's size, the target's size (both 1), control word (2).'
+/// R9.4: the form to be written, or the number of the refusal.
 fn save(machine: &Machine, target_size: usize) -> Result<Vec<u8>, u32> {
     if machine.vectors.len() != VECTORS_SIZE {
         return Err(1);
@@ -39,16 +39,14 @@ fn save(machine: &Machine, target_size: usize) -> Result<Vec<u8>, u32> {
     Ok(form(machine))
 }
 
-/// The bytes of a state, in the order of the paper: 'a 4-byte length of what follows (2,253), a
-/// version byte 1, control word, pointer, general registers, masks, all big-endian, then the
-/// vector file'. Nothing is checked, so a form that is refused can be made too.
+/// R9.1, R9.2: the bytes of a state, field by field. Nothing is checked, so a form that is refused
+/// can be made too.
 pub fn form(machine: &Machine) -> Vec<u8> {
     let mut bytes = Vec::new();
     bytes.extend(FOLLOWING.to_be_bytes());
     bytes.push(VERSION);
     bytes.extend(machine.control.to_be_bytes());
     bytes.extend(machine.pointer.to_be_bytes());
-    // 'General registers and masks stand in rising order.'
     for register in machine.general {
         bytes.extend(register.to_be_bytes());
     }
@@ -59,8 +57,7 @@ pub fn form(machine: &Machine) -> Vec<u8> {
     bytes
 }
 
-/// 'Loading checks in order the size of the lent vector file (1), total size, length field and
-/// version (10), control word (2).'
+/// R9.5: the state that the bytes hold, or the number of the refusal.
 pub fn load(saved: &[u8], vectors_size: usize) -> Result<Machine, u32> {
     if vectors_size != VECTORS_SIZE {
         return Err(1);
@@ -88,7 +85,7 @@ pub fn load(saved: &[u8], vectors_size: usize) -> Result<Machine, u32> {
     })
 }
 
-/// Takes the next bytes away as a big-endian number.
+/// R9.2: takes the next bytes away as a number, the highest first.
 fn take(rest: &mut &[u8], count: usize) -> u64 {
     let (taken, left) = rest.split_at(count);
     *rest = left;

@@ -1,48 +1,48 @@
-//! A whole step by document 01: addresses and lanes ('Fields of an instruction'), flags ('Rounding
-//! and flags'), and what each answer leaves ('Numbers the engine gets back').
+//! A whole step: the order of the answers and what each leaves (section 4 of docs/RULES.md), lanes
+//! and memory (5), flags (7).
 
 use super::encoding::{decode, Address, Base, Instruction, Second, Source};
 use crate::case::Case;
 use crate::machine::{Answer, Machine, Step, StepOutcome, REGISTER_SIZE, VECTORS_SIZE};
 
-/// What document 01 answers to a step and leaves of it.
+/// R4.19: what the rules answer to a step and leave of it.
 pub fn step(before: &Step) -> StepOutcome {
     let mut after = before.clone();
     let answer = match carry_out(before, &mut after.machine) {
         Ok(length) => Answer { number: 0, length },
-        // 'the length is 0 unless the number is 0'
+        // R4.17: no length without 0
         Err(number) => Answer { number, length: 0 },
     };
     StepOutcome { answer, after }
 }
 
-/// The order of the refusals. The machine is changed only by the last lines, and by 8.
+/// R4.2: the order. The machine is changed only by the last lines, and by 8.
 fn carry_out(before: &Step, machine: &mut Machine) -> Result<u32, u32> {
-    // 1, 2
+    // R4.3, R4.4: the size of the vector file, the control word
     if before.machine.vectors.len() != VECTORS_SIZE {
         return Err(1);
     }
     if before.machine.control >= 1 << 16 {
         return Err(2);
     }
-    // 3, 4, 5, 6 by the bytes alone
+    // R4.5 to R4.12, by the bytes alone
     let instruction = decode(&before.code)?;
-    // 7: 'all sources are read before the destination is written'
+    // R4.13; R5.8: every source is read here, and nothing written yet
     let operands = gather(before, &instruction).ok_or(7_u32)?;
-    // 8
+    // R4.14; R7.2, R7.4: the flags are set for 0 and for 8
     let (halves, flags) = compute(&before.machine, &instruction, &operands);
     machine.control |= u32::from(flags);
     if flags & unmasked(&before.machine, &instruction) != 0 {
         return Err(8);
     }
-    // 0
+    // R4.15: destination and pointer
     write_destination(machine, &instruction, &halves);
     let length = instruction.length as u32;
     machine.pointer = machine.pointer.wrapping_add(u64::from(length));
     Ok(length)
 }
 
-/// 'aaa 000 means every lane is on; otherwise bit j of that mask register decides lane j.'
+/// R5.1: within the lanes, and not masked off.
 pub fn is_on(machine: &Machine, instruction: &Instruction, lane: usize) -> bool {
     let in_length = lane < instruction.lanes;
     let mask = instruction.mask;
@@ -50,7 +50,7 @@ pub fn is_on(machine: &Machine, instruction: &Instruction, lane: usize) -> bool 
 }
 
 /// The operands of each lane that is on, in the operation's order; none where a word that such a
-/// lane needs lies outside memory. Lanes that are off read nothing.
+/// lane needs lies outside memory (R5.7). For lanes that are off nothing is read (R5.2).
 fn gather(before: &Step, instruction: &Instruction) -> Option<Vec<Option<[u16; 3]>>> {
     let mut all = Vec::new();
     for lane in 0..instruction.lanes {
@@ -76,14 +76,14 @@ fn second_operand(before: &Step, instruction: &Instruction, lane: usize) -> Opti
         Second::Register(register) => Some(before.machine.lane(register, lane)),
         Second::Memory { address, broadcast } => {
             let first = first_address(&before.machine, &address, instruction.length);
-            // 'lane j's word begins 2j after the first, also modulo 2 to the 64'
+            // R5.5: every lane its own word, or all the first
             let offset = if broadcast { 0 } else { 2 * lane as u64 };
             word(&before.memory, first.wrapping_add(offset))
         }
     }
 }
 
-/// 'Addresses are sums modulo 2 to the 64.'
+/// R5.4: base, index and displacement added up.
 pub fn first_address(machine: &Machine, address: &Address, length: usize) -> u64 {
     let base = match address.base {
         Base::None => 0,
@@ -98,20 +98,20 @@ pub fn first_address(machine: &Machine, address: &Address, length: usize) -> u64
     base.wrapping_add(index).wrapping_add(displacement)
 }
 
-/// The word at an address, little-endian; none if one of its two bytes lies outside memory.
+/// R5.5: the word at an address, low byte first; none if one of its bytes lies outside memory.
 fn word(memory: &[u8], address: u64) -> Option<u16> {
     let low = byte(memory, address)?;
     let high = byte(memory, address.wrapping_add(1))?;
     Some(u16::from_le_bytes([low, high]))
 }
 
-/// 'Lent memory holds addresses 0 to its length less 1.'
+/// R1.8: a byte of memory, if the address is one of its own.
 fn byte(memory: &[u8], address: u64) -> Option<u8> {
     memory.get(usize::try_from(address).ok()?).copied()
 }
 
-/// The half of each lane that is on, and the flags that are recorded: those of all these lanes
-/// or-ed, none with embedded rounding.
+/// R7.1: the half of each lane that is on, and the flags that are set: those of all these lanes
+/// or-ed, none under embedded rounding (R7.5).
 fn compute(
     machine: &Machine,
     instruction: &Instruction,
@@ -148,14 +148,13 @@ pub fn lane_cases(before: &Step, instruction: &Instruction) -> Option<Vec<Case>>
     Some(lanes.into_iter().flatten().map(case).collect())
 }
 
-/// Embedded, or 'mode in 13 and 14'.
+/// R7.5, R1.5: the instruction's own mode, or the control word's.
 fn mode(machine: &Machine, instruction: &Instruction) -> u32 {
     let of_control = machine.control >> 13 & 3;
     instruction.embedded_mode.unwrap_or(of_control)
 }
 
-/// The exceptions that are not masked, at the places of their flags: 'their masks in 7 to 12'.
-/// With embedded rounding 'all six exceptions count as masked'.
+/// R1.5, R7.5: the exceptions that count as unmasked, at the places of their flags.
 pub fn unmasked(machine: &Machine, instruction: &Instruction) -> u8 {
     match instruction.embedded_mode {
         Some(_) => 0,
@@ -163,8 +162,7 @@ pub fn unmasked(machine: &Machine, instruction: &Instruction) -> u8 {
     }
 }
 
-/// Lanes that are off 'keep the old destination, or become 0 with z. Bytes above the vector length
-/// become 0.'
+/// R5.9: by lanes, of which those above the vector become 0.
 fn write_destination(machine: &mut Machine, instruction: &Instruction, halves: &[Option<u16>]) {
     let destination = instruction.destination;
     for lane in 0..REGISTER_SIZE / 2 {

@@ -1,4 +1,4 @@
-//! A state, and its saved form (document 01, 'Saved state and the command').
+//! A state, and its saved form (docs/RULES.md, R9.1).
 
 pub const SAVED_SIZE: usize = 2257;
 pub const CODE_LIMIT: usize = 4096;

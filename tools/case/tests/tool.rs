@@ -5,7 +5,7 @@ use std::fs;
 use std::path::{Path, PathBuf};
 use std::process::{Command, Output, Stdio};
 
-/// The smallest text: the whole case of document 01.
+/// The smallest text: the command's example in docs/RULES.md, section 12.
 const WHOLE: &str = "code 62 F5 74 48 58 C2\n";
 
 fn root() -> &'static Path {

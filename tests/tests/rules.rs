@@ -1,0 +1,92 @@
+//! The examples of docs/RULES.md (R12.3): each row of its tables by the second program and by the
+//! library, and the command's by a shell, as a reader would paste it.
+
+use ridgecrook_tests::case::Case;
+use ridgecrook_tests::compare::Compared;
+use ridgecrook_tests::library;
+use ridgecrook_tests::machine::Step;
+use std::path::{Path, PathBuf};
+use std::process::Command;
+use std::str::FromStr;
+
+fn root() -> PathBuf {
+    let tests = Path::new(env!("CARGO_MANIFEST_DIR"));
+    tests.parent().expect("a folder of the project").into()
+}
+
+/// The part of the page that has the examples.
+fn section() -> String {
+    let page = std::fs::read_to_string(root().join("docs/RULES.md")).expect("the page of rules");
+    let (_, rest) = page.split_once("\n## 12. Examples\n").expect("section 12");
+    let (section, _) = rest.split_once("\n## ").expect("a section behind it");
+    section.to_string()
+}
+
+/// A row of a table: its mark, what is tried, what that gives.
+struct Row<'a> {
+    mark: &'a str,
+    tried: &'a str,
+    gives: &'a str,
+}
+
+/// A line of the page as a row, if it has four columns and the last two are code.
+fn row(line: &str) -> Option<Row<'_>> {
+    let cells: Vec<&str> = line.split('|').map(str::trim).collect();
+    let ["", mark, _, tried, gives, ""] = cells[..] else {
+        return None;
+    };
+    Some(Row {
+        mark,
+        tried: code(tried)?,
+        gives: code(gives)?,
+    })
+}
+
+fn code(cell: &str) -> Option<&str> {
+    cell.strip_prefix('`')?.strip_suffix('`')
+}
+
+/// Holds the rows that are steps, or those that are not, against both programs. Hands back how many
+/// there are, and how many have the mark.
+fn check<C>(steps: bool, mark: &str, answer: fn(&C) -> C::Outcome) -> (usize, usize)
+where
+    C: Compared + FromStr<Err = String>,
+{
+    let section = section();
+    let mut rows: Vec<Row> = section.lines().filter_map(row).collect();
+    rows.retain(|row| row.tried.starts_with("step ") == steps);
+    for Row { tried, gives, .. } in &rows {
+        let case: C = tried.parse().unwrap_or_else(|why| panic!("{tried}: {why}"));
+        let both = [case.expected(), answer(&case)].map(|outcome| case.shown(&outcome));
+        assert_eq!(both, [*gives; 2], "second program, library: {tried}");
+    }
+    let marked = rows.iter().filter(|row| row.mark == mark).count();
+    (rows.len(), marked)
+}
+
+#[test]
+fn arithmetic_examples() {
+    assert_eq!(check::<Case>(false, "*", library::answer), (27, 18));
+}
+
+#[test]
+fn step_examples() {
+    assert_eq!(check::<Step>(true, "+", library::step_outcome), (38, 7));
+}
+
+/// What stands behind some text, up to the end of the block of code that it begins.
+fn block<'a>(section: &'a str, from: &str) -> &'a str {
+    let (_, rest) = section.split_once(from).expect(from);
+    rest.split_once("```").expect("the end of a block").0
+}
+
+#[test]
+fn the_command_example() {
+    let section = section();
+    let mut shell = Command::new("sh");
+    shell.args(["-c", block(&section, "```sh\n")]);
+    let output = shell.current_dir(root()).output().expect("a shell");
+    assert_eq!(String::from_utf8_lossy(&output.stderr), "");
+    let printed = String::from_utf8_lossy(&output.stdout);
+    assert_eq!(printed, block(&section, "prints (R10.4, R10.5)\n\n```\n"));
+}
