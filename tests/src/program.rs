@@ -66,18 +66,19 @@ impl Program {
         self.finish(output.expect("the command starts"))
     }
 
-    /// What is printed on standard output and on standard error, with any standard input.
+    /// What is printed on standard output and on standard error, with any standard input; the exit
+    /// status is 0 (R10.7).
     pub fn printed(&self, stdin: impl Into<Stdio>) -> (Vec<u8>, Vec<u8>) {
         let output = Command::new(&self.path).stdin(stdin).output();
         let output = output.expect("the command starts");
+        assert!(output.status.success(), "the command: {}", output.status);
         (output.stdout, output.stderr)
     }
 
-    /// What is printed, of a program that ends by itself and not by a signal.
+    /// What is printed, of a program that ends by itself, with exit status 0 (R10.7).
     fn finish(&self, child: Child) -> Vec<u8> {
         let output = child.wait_with_output().expect("the command ends");
-        let status = output.status;
-        assert!(status.code().is_some(), "the command ended by {status}");
+        assert!(output.status.success(), "the command: {}", output.status);
         output.stdout
     }
 }
