@@ -1,5 +1,5 @@
 //! The examples of docs/RULES.md (R12.3): each row of its tables by the second program and by the
-//! library, and the command's by a shell, as a reader would paste it.
+//! library, the command's by a shell, as a reader would paste it, and the definition that it shows.
 
 use ridgecrook_tests::case::Case;
 use ridgecrook_tests::compare::Compared;
@@ -14,12 +14,20 @@ fn root() -> PathBuf {
     tests.parent().expect("a folder of the project").into()
 }
 
-/// The part of the page that has the examples.
-fn section() -> String {
-    let page = std::fs::read_to_string(root().join("docs/RULES.md")).expect("the page of rules");
-    let (_, rest) = page.split_once("\n## 12. Examples\n").expect("section 12");
+fn text(path: &str) -> String {
+    std::fs::read_to_string(root().join(path)).expect(path)
+}
+
+/// A section of the page, by its heading.
+fn section(heading: &str) -> String {
+    let page = text("docs/RULES.md");
+    let (_, rest) = page.split_once(heading).expect(heading);
     let (section, _) = rest.split_once("\n## ").expect("a section behind it");
     section.to_string()
+}
+
+fn examples() -> String {
+    section("\n## 12. Examples\n")
 }
 
 /// A row of a table: its mark, what is tried, what that gives.
@@ -52,7 +60,7 @@ fn check<C>(steps: bool, mark: &str, answer: fn(&C) -> C::Outcome) -> (usize, us
 where
     C: Compared + FromStr<Err = String>,
 {
-    let section = section();
+    let section = examples();
     let mut rows: Vec<Row> = section.lines().filter_map(row).collect();
     rows.retain(|row| row.tried.starts_with("step ") == steps);
     for Row { tried, gives, .. } in &rows {
@@ -82,11 +90,19 @@ fn block<'a>(section: &'a str, from: &str) -> &'a str {
 
 #[test]
 fn the_command_example() {
-    let section = section();
+    let section = examples();
     let mut shell = Command::new("sh");
     shell.args(["-c", block(&section, "```sh\n")]);
     let output = shell.current_dir(root()).output().expect("a shell");
     assert_eq!(String::from_utf8_lossy(&output.stderr), "");
     let printed = String::from_utf8_lossy(&output.stdout);
     assert_eq!(printed, block(&section, "prints (R10.4, R10.5)\n\n```\n"));
+}
+
+/// The definition that the page explains stands so in its file.
+#[test]
+fn the_definition_shown() {
+    let section = section("\n## Reading a definition\n");
+    let definition = block(&section, "```\n");
+    assert!(text("crates/half/specs/Round.antt").contains(definition));
 }

@@ -39,7 +39,7 @@ pub and-right : (p q : Bool) → (p && q) ≡ true → q ≡ true
 and-right true q e = e
 and-right false q e = cc
 
--- ---- finite operands: neither 1 nor 2 applies, and no infinity takes part
+-- ---- finite operands: none of R6.6, R6.7, R6.8 and R6.10
 module _ (mode : Mode) (unmaskedUE : Bool) (a b : ℕ) where
   module _ (f : (isFinite a && (isFinite b && isFinite b)) ≡ true) where
     fa : isFinite a ≡ true

@@ -81,7 +81,7 @@ module _ (h : ℕ) (n : isNormal h ≡ true) where
   pub normal-raised : {x i : ℕ} → x ≡ significand h → i ≡ exponentField h → x * 2 ^ i % 2 ^ 64 ≡ units h * 2
   normal-raised {x} {i} hx hi = shl-exact {a = x} 11 i 64 (omega (arith, significand-lt h)) (omega (arith, normal-lt)) ∙ normal-units hx hi
 
--- ---- rule 4 alone applies
+-- ---- rounding alone (R6.16 to R6.24)
 plain : (o : Outcome) → result (o .half) (bitOr 0 (o .flags)) ≡ o
 plain o = ap (λ (f : ℕ). result (o .half) f) (or-zero-l (o .flags))
 
