@@ -122,7 +122,7 @@ module _ (s : State) (i : Instruction) (g : Sources) where
 
 -- ---- R5.9: the destination
 
--- byte q of the destination's register, that was b
+-- byte q of the destination's register, that was b: its lane's result, or kept, or 0
 abbrev pub newByte : State → Instruction → List ℕ → ℕ → ℕ → ℕ
 newByte s i halves q b =
     let j = q / 2 in

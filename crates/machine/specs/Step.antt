@@ -28,11 +28,11 @@ wrongVectorFile s = not (eqb (length (s .vectors)) 2048)
 unfoldable pub highControlBit : State → Bool
 highControlBit s = leb (2 ^ 16) (s .control)
 
--- R4.13: by R5.7
+-- R4.13: a byte that is needed lies outside memory (R5.7)
 unfoldable pub outsideMemory : List ℕ → State → Decoded → Bool
 outsideMemory memory s d = ofFields d false (λ (i : Instruction). needsOutside s i (length memory))
 
--- R4.14: by R7.3
+-- R4.14: an unmasked exception is raised (R7.3)
 unfoldable pub unmaskedException : List ℕ → State → Decoded → Bool
 unmaskedException memory s d = ofFields d false (λ (i : Instruction). raisesUnmasked s i (gathered memory s i))
 

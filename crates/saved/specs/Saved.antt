@@ -16,6 +16,7 @@ wrongSize bytes = not (eqb (length bytes) savedSize)
 
 -- ---- R9.4: saving
 
+-- the conditions with their numbers
 unfoldable pub saveConditions : State → List ℕ → List (Bool × ℕ)
 saveConditions s target = (wrongVectorFile s, 1) ∷ (wrongSize target, 1) ∷ (highControlBit s, 2) ∷ []
 
@@ -38,7 +39,7 @@ wrongLength bytes = not (eqb (numberIn bytes 0 4) followingSize)
 unfoldable pub wrongVersion : List ℕ → Bool
 wrongVersion bytes = not (eqb (getD bytes 4 0) 1)
 
--- R4.1
+-- R4.1: the conditions with their numbers
 unfoldable pub loadConditions : List ℕ → State → List (Bool × ℕ)
 loadConditions bytes s =
     (wrongVectorFile s, 1)
