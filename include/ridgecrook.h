@@ -67,7 +67,7 @@ extern "C" {
 #define RIDGECROOK_ZE 4  /* a finite number other than zero was divided by zero */
 #define RIDGECROOK_OE 8  /* overflow */
 #define RIDGECROOK_UE 16 /* underflow */
-#define RIDGECROOK_PE 32 /* precision: the half delivered is not the exact result */
+#define RIDGECROOK_PE 32 /* precision: the half is not the exact result, or overflow */
 
 /* What an operation hands back: 4 bytes, without padding. */
 typedef struct {
@@ -87,16 +87,17 @@ typedef struct {
  *   underflow_unmasked  0 is no, every other number is yes: whether the underflow exception is
  *                       unmasked. The half is the same either way. With no, a tiny result raises
  *                       RIDGECROOK_UE only if it is inexact; with yes, also if it is exact
- *                       (R6.23). Tiny is a result other than zero whose magnitude does not reach
- *                       2 to the -14, rounded to 11 significant bits (R6.21).
+ *                       (R6.23). Tiny is a result other than zero whose magnitude, rounded in the
+ *                       same mode to 11 significant bits whatever the exponent, does not reach
+ *                       2 to the -14 (R6.21).
  *
  * Both are 32 bits wide, so that no int or unsigned that a caller passes is cut to a valid one.
  *
  * The exact result is rounded once. A NaN operand is handed back made quiet, the first one if
  * there are several; the flag is then RIDGECROOK_IE if any operand is signalling, else none (R6.6).
  * An operation without a result (infinities that cancel, zero times infinity, 0/0, infinity divided
- * by infinity, the root of a number below zero) gives 0xFE00 and RIDGECROOK_IE (R6.7). A finite
- * number other than zero divided by zero gives an infinity and RIDGECROOK_ZE alone (R6.8).
+ * by infinity, the root of a number below zero) gives 0xFE00 and RIDGECROOK_IE alone (R6.7). A
+ * finite number other than zero divided by zero gives an infinity and RIDGECROOK_ZE alone (R6.8).
  * Subnormal operands and results are never taken as zero.
  */
 
@@ -152,8 +153,8 @@ typedef struct {
  *                            7 to 12 mask the same exceptions, 13 and 14 are the rounding mode.
  *                            Bits 6 and 15 (DAZ and FZ) have no effect (R1.6). A word above 0xFFFF
  *                            is refused.
- *   pointer                  The address of the instruction, which addresses relative to the next
- *                            instruction count from.
+ *   pointer                  RIP: the address of this instruction. Operands relative to RIP count
+ *                            from it plus the instruction's length (R5.4).
  *   code, code_length        The bytes from the instruction on; only read. What stands behind the
  *                            instruction has no effect (R4.18), so the rest of a program may be
  *                            lent, and 15 bytes are always enough.
@@ -169,9 +170,9 @@ typedef struct {
  *                         wraps at 2 to the 64 (R4.15). All else is as it was.
  *   RIDGECROOK_EXCEPTION  A lane that is on raised an exception whose mask bit is 0 (R7.3);
  *                         embedded rounding has all masked. The flags that lanes that are on raise
- *                         are set in *control, also those of masked exceptions (R7.4; a processor
- *                         sets fewer in two cases, R7.6). All else is as it was. Flags that
- *                         *control had before count for nothing.
+ *                         are set in *control, also those of masked exceptions (R7.4; the
+ *                         processors tried set fewer in two cases, R7.6). All else is as it was.
+ *                         Flags that *control had before count for nothing.
  *   every other number    All is as it was (R4.16).
  *
  * If there is cause for several answers, the first in this order is given (R4.3 to R4.14):

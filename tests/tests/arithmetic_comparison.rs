@@ -1,5 +1,5 @@
-//! The library and the second program side by side: exhaustive where that is affordable, else on
-//! corners and on random cases.
+//! The library and the second program side by side (R12.3): exhaustive where that is affordable,
+//! else on corners and on random cases.
 //!
 //! `RIDGECROOK_SEED` sets the seed and `RIDGECROOK_CASES` the number of random cases of each
 //! operation.

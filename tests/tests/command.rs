@@ -1,5 +1,5 @@
 //! The command as a process (R10.1 to R10.7), its standard output held against the second
-//! program's.
+//! program's (R12.3).
 //!
 //! `RIDGECROOK_COMMAND` names the program (otherwise `target/bin/run`), `RIDGECROOK_SEED` sets the
 //! seed, `RIDGECROOK_INPUTS` the number of random inputs. An input whose output differs is kept as

@@ -1,4 +1,4 @@
-//! The saved form (R9.1 to R9.7) by the library and the second program: random states, every size,
+//! The saved form (R9.1 to R9.7, R12.3) by library and second program: random states, every size,
 //! every damaged byte of the header, the order of the refusals, and both round trips. All that is
 //! lent to a call is compared after it, so a refusal that changes anything differs.
 //!

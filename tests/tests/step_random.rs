@@ -1,5 +1,5 @@
-//! Random steps by the library and the second program, one by one and in sequences, and a count of
-//! what they reach.
+//! Random steps by the library and the second program (R12.3), one by one and in sequences, and a
+//! count of what they reach.
 //!
 //! `RIDGECROOK_SEED` sets the seed, `RIDGECROOK_STEPS` the number of steps of each test. What was
 //! reached is shown by `cargo test --release --test step_random -- --nocapture`.

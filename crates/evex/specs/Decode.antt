@@ -90,7 +90,7 @@ abbrev pub fields : Head → List ℕ → Listed → Decoded
 fields h code (Found row) = Fields (instruction h row (displacementOf h code))
 fields h code Nothing = Refused Unlisted
 
--- The refusal that comes first, or else the fields. (What R11.5 calls decoded asks for neither 1 nor 2 besides.)
+-- The refusal that comes first, or else the fields. (R11.5 calls code decoded only where, besides, neither R4.3 nor R4.4 holds.)
 unfoldable pub decoded : List ℕ → Decoded
 decoded code =
     let h : Head = headOf code in

@@ -1,5 +1,5 @@
--- docs/RULES.md, R6.16 and R6.17: exact results, and how they are rounded to a unit. An exact magnitude is asked two things: how it
--- compares with a ratio, and how many whole units it holds; `roundTo` rounds it by these.
+-- docs/RULES.md, R6.16 and R6.17: exact results, and how they are rounded to a unit. `roundTo` asks an exact magnitude
+-- two things: how it compares with a ratio, and how many whole units it holds.
 use Prim.Native.Nat.{ℕ, zero, suc, _+_, _*_, _/_, _^_, compare, Ordering, Ordering·lt, Ordering·eq, Ordering·gt}
 use mathlib.Core.Bool.{Bool, true, false, not, cond}
 use lib.Dec.{leb}

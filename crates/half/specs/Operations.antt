@@ -31,11 +31,11 @@ unlessNan hs o = cond (some isNan hs) (nanResult hs) o
 abbrev pub invalid : Outcome
 invalid = result 0xFE00 IE
 
--- R6.9: DE for a subnormal operand, beside the flags of what follows
+-- R6.9: DE, added to the other flags, if some operand is subnormal
 abbrev pub withDenormals : List ℕ → Outcome → Outcome
 withDenormals hs o = result (o .half) (bitOr (flag DE (some isSubnormal hs)) (o .flags))
 
--- R6.10: an infinity or a zero that is exact, without a flag of its own
+-- R6.5: an infinity (R6.10) or a zero (R6.10, R6.12, R6.14) that is exact, without a flag of its own
 abbrev pub exactly : ℕ → Outcome
 exactly h = result h 0
 
@@ -58,7 +58,7 @@ exactSum mode unmaskedUE sx x sy y d =
     (cond (ltb x y) (roundedHalf mode unmaskedUE sy (ratio (y - x) d))
     (exactly (cancelled mode))))
 
--- ---- R6.5: the operations. `units h` is the magnitude of h times 2 ^ 24
+-- ---- R6.5: the operations; R6.10 is in those lines that ask for infinities. `units h` is the magnitude of h times 2 ^ 24
 
 -- R6.12, a + b. Invalid (R6.7): infinities of unlike signs.
 unfoldable pub halfAdd : Mode → Bool → ℕ → ℕ → Outcome

@@ -33,14 +33,14 @@ PE = 32
 abbrev pub flag : ℕ → Bool → ℕ
 flag f raised = cond raised f 0
 
--- a half and its flags
+-- R6.5: a half and its flags
 abbrev pub result : ℕ → ℕ → Outcome
 result h f = record { half = h; flags = f }
 
 -- ---- R6.18, R6.19: two roundings to 11 significant bits
 
--- x rounded to 11 significant bits, but to no unit finer than 2 ^ -l; a number of units 2 ^ -l. Where x holds fewer than 2,048 of them
--- its 11 bits would be finer, and s is 0.
+-- x rounded to 11 significant bits, but to no unit finer than 2 ^ -l; a number of units 2 ^ -l. Where x holds fewer than 1,024 of them
+-- its 11 bits would be finer; from 1,024 to 2,047 they are these units. In both cases s is 0.
 unfoldable pub significant : ℕ → Mode → Bool → Magnitude → ℕ
 significant l mode neg x =
     let s = size (whole x 1 (2 ^ l)) - 11 in

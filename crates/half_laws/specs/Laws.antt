@@ -40,7 +40,7 @@ pub record StandsFor (neg : Bool) (n h : ℕ) : Type 0 where
   pub sign : negative h ≡ neg
   pub number : units h ≡ n
 
--- Without overflow a half with the value's sign is delivered, also a zero, and stands for the exact value rounded on the half grid.
+-- Without overflow a half with the value's sign is delivered, also a zero, and stands for the number that `delivered` gives.
 abbrev pub DeliveredHalfLaw : Type 0
 DeliveredHalfLaw = (mode : Mode) (unmaskedUE neg : Bool) (x : Magnitude) → 0 < denominator x → overflows mode neg x ≡ false
     → StandsFor neg (delivered mode neg x) (halfOf mode unmaskedUE neg x)
@@ -98,12 +98,12 @@ InexactLaw = (mode : Mode) (unmaskedUE neg : Bool) (x : Magnitude) → 0 < denom
 
 -- ---- 5. R6.20: overflow (IEEE 754, 7.4)
 
--- OE exactly if the value rounded to 11 bits with no exponent limit, a number of units 2 ^ -(fine x), reaches 65,536
+-- OE exactly if the value rounded by R6.19, a number of units 2 ^ -(fine x), reaches 65,536
 abbrev pub OverflowFlagLaw : Type 0
 OverflowFlagLaw = (mode : Mode) (unmaskedUE neg : Bool) (x : Magnitude)
     → (raises OE mode unmaskedUE neg x ≡ true) ↔ (65536 * 2 ^ fine x ≤ unlimited mode neg x)
 
--- what is delivered then: the infinity, or the largest finite half where the mode leads toward zero
+-- the half then: the infinity, or the largest finite half where the mode leads toward zero
 abbrev pub afterOverflow : Mode → Bool → ℕ
 afterOverflow Nearest false = 0x7C00
 afterOverflow Nearest true = 0xFC00

@@ -20,7 +20,7 @@ use Rattle.evex.specs.declared.Decoded.the-variants.{Fields, Refused}
 
 -- ---- R12.2
 
--- 62 F5 74 D9 58 C2 and the like: byte 3, and what follows the opcode
+-- 62 F5 74 D9 58 40 01 and the like: byte 3, and what follows the opcode
 abbrev bytes : ℕ → List ℕ → List ℕ
 bytes byte3 end = 0x62 ∷ 0xF5 ∷ 0x74 ∷ byte3 ∷ 0x58 ∷ end
 

@@ -39,7 +39,7 @@ unmasked (Embedded mode) control = 0
 abbrev pub unmaskedUE : Rounding → ℕ → Bool
 unmaskedUE rounding control = isSet (unmasked rounding control) 4
 
--- R7.2: the control word with flags set in it
+-- R7.2: the control word with flags set in it, and all its other bits kept (R1.6)
 abbrev pub recorded : Rounding → ℕ → ℕ → ℕ
 recorded Control control flags = bitOr control flags
 recorded (Embedded mode) control flags = control

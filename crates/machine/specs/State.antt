@@ -37,7 +37,7 @@ registerAt n = n * 64
 abbrev pub lanePlaces : ℕ → ℕ → List ℕ
 lanePlaces n j = (registerAt n + 2 * j) ∷ (registerAt n + 2 * j + 1) ∷ []
 
--- ---- R1.5: the control word
+-- ---- R1.5: the control word. R1.6: neither of these reads DAZ or FZ.
 
 -- the exceptions whose mask bit is 0, as flags
 abbrev pub unmaskedFlags : ℕ → ℕ

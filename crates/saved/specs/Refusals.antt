@@ -8,13 +8,13 @@ use Rattle.machine.specs.State.{State}
 use Rattle.machine.specs.Answers.{InOrder}
 use Rattle.saved.specs.Saved.{saveConditions, save, loadConditions, load}
 
--- R9.6: of every save.
+-- R9.4, R9.6: of every save.
 abbrev pub SaveRefusals : Type 0
 SaveRefusals =
     (s : State) (target : List ℕ)
     → InOrder (saveConditions s target) (save s target .number) × (save s target .number ≢ 0 → save s target .target ≡ target)
 
--- R9.6: of every load.
+-- R9.5, R9.6: of every load.
 abbrev pub LoadRefusals : Type 0
 LoadRefusals =
     (bytes : List ℕ) (s : State)

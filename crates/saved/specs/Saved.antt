@@ -62,7 +62,7 @@ load bytes s =
 
 -- ---- R9.7: round trips
 
--- A state that the machine's registers can hold: what the round trip supposes of a state. Its vector file may have any size.
+-- A state that the machine's registers can hold (R1.4): what the round trip supposes of a state. Its vector file may have any size.
 pub record Held (s : State) : Type 0 where
   pub masksCount : length (s .masks) ≡ 8
   pub masks : Each (λ m. m < 2 ^ 64) (s .masks)

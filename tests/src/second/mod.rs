@@ -1,9 +1,9 @@
 //! The independent second program: the rules of docs/RULES.md in plain whole numbers, slow and
 //! obvious. It shares no code with the library.
 //!
-//! `operations` has R6.5 to R6.16, `rounding` R6.17 to R6.24; `encoding` has the bytes of an
-//! instruction (sections 2 and 3), `step` all else of a step (4, 5 and 7); `saved` has the saved
-//! form (9), `command` what the command prints (10).
+//! `half` has R6.1 to R6.3, `operations` R6.5 to R6.15, `exact` R6.16, `rounding` R6.17 to R6.24;
+//! `encoding` has the bytes of an instruction (sections 2 and 3), `step` all else of a step (4, 5
+//! and 7); `saved` has the saved form (9), `command` what the command prints (10).
 
 pub mod command;
 pub mod encoding;
