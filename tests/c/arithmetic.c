@@ -1,4 +1,4 @@
-/* The arithmetic as a C engineer calls it: the header, the archive, rows for each function. */
+/* The arithmetic as a C engineer calls it (R8.1): the header, the archive, rows for each function. */
 #include "check.h"
 #include "ridgecrook.h"
 

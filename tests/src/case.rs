@@ -4,7 +4,7 @@
 use std::fmt;
 use std::str::FromStr;
 
-/// The six flags, as they stand in the control word.
+/// The six flags, as they stand in the control word (R1.5).
 pub const IE: u8 = 1;
 pub const DE: u8 = 2;
 pub const ZE: u8 = 4;

@@ -1,7 +1,7 @@
 //! A step of the machine as the tests hold it: the state and all else that is lent to a call, and
 //! what the call leaves of it.
 
-/// The size that the vector file is to have; a test may hold one of any size.
+/// The size that the vector file is to have (R1.2); a test may hold one of any size.
 pub const VECTORS_SIZE: usize = 2048;
 pub const REGISTER_SIZE: usize = 64;
 

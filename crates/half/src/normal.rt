@@ -60,8 +60,8 @@ pub fn product_of(a: u16, b: u16) -> u64
     significand_of(a) * significand_of(b)
 }
 
-// z * 2^k / 2^26 rounded, for a z of 13 digits, the last of which says whether something is left below (specs/Work.antt, place). The half
-// is normal, or too large, so that nothing turns on the mask of UE.
+// R6.18, R6.20: z * 2^k / 2^26 rounded, for a z of 13 digits, the last of which says whether something is left below (specs/Work.antt,
+// place). The half is normal, or too large, so that nothing turns on the mask of UE.
 pub fn packed(mode: Mode, neg: bool, z: u64, k: u32) -> Outcome
     requires { ⌜ (2 ^ 12 ≤ z) × (z < 2 ^ 13) × (k < 128) ⌝ }
     ensures { λ r. ⌜ ((unmaskedUE : Bool) → r ≡ roundedHalf mode unmaskedUE neg (ratio (z * 2 ^ k) (2 ^ 26))) ⌝ }
