@@ -7,7 +7,7 @@ use mathlib.Core.List.{List, [], _∷_, map}
 use Prim.Native.Nat.{ℕ}
 use Rattle.lists.specs.Lists.{firstOf}
 use Rattle.evex.specs.Fields.{headOf, listed}
-use Rattle.evex.specs.Decode.{numberOf, notInList, refusals, fields, decoded}
+use Rattle.evex.specs.Decode.{numberOf, notInList, headConditions, refusals, fields, decoded}
 use Rattle.evex.specs.declared.list.Listed.{Listed}
 use Rattle.evex.specs.declared.list.Listed.the-variants.{Found, Nothing}
 use Rattle.evex.specs.declared.Refusal.{Refusal}
@@ -36,7 +36,7 @@ first-answer n (c ∷ cs) d = rw (first-answer n cs d) (picked n (c .0) (c .1) (
 -- what is not in the list is refused, so what follows does not matter
 past-list : (n m : ℕ) (code : List ℕ) → listed (headOf code) ≡ Nothing
     → firstOf (numbered (refusals code)) n ≡ firstOf (numbered (refusals code)) m
-unfolding refusals notInList
+unfolding refusals headConditions notInList
 past-list n m code e = rw e
 
 pub answers : (n : ℕ) (code : List ℕ) → firstOf (numbered (refusals code)) n ≡ numberOr n (decoded code)

@@ -11,9 +11,9 @@ use lib.IntN.{ℤ}
 use Rattle.lists.specs.Lists.{firstOf}
 use Rattle.lists.proofs.Tests.{either}
 use Rattle.evex.specs.Bits.{bits}
-use Rattle.evex.specs.List.{hasFirst}
+use Rattle.evex.specs.List.{shape}
 use Rattle.evex.specs.Fields.{headOf, lengthBits, modBits, rm, listed, destination, first, registerForm}
-use Rattle.evex.specs.Fields.{embeddedRounding, lanes, hasSib, baseBits, indexNumber, indexOf, noBase, baseOf, displacementAt}
+use Rattle.evex.specs.Fields.{fullLength, vectorLanes, elements, hasSib, baseBits, indexNumber, indexOf, noBase, baseOf, displacementAt}
 use Rattle.evex.specs.Fields.{displacementSize, size, displacementOf, second, instruction}
 use Rattle.evex.specs.Decode.{refusals, fields, decoded}
 use Rattle.evex.specs.declared.head.Head.{Head}
@@ -51,7 +51,7 @@ OperandIn (operand.Register n) = n < 32
 OperandIn (operand.Memory address broadcast) = BaseIn (address .base) × IndexIn (address .index)
 
 pub record Bounds (i : Instruction) : Type 0 where
-  pub lanes : i .lanes ≤ 32
+  pub elements : i .elements ≤ 32
   pub mask : i .mask < 8
   pub destination : i .destination < 32
   pub first : SourceIn (i .first)
@@ -65,18 +65,14 @@ at-most : (k : ℕ) (t : Bool) (x y : ℕ) → x ≤ k → y ≤ k → cond t x 
 at-most k t x y = either (λ n. n ≤ k) t
 
 module _ (h : Head) where
-  lanes-in : lanes h ≤ 32
-  unfolding lanes
+  lanes-in : vectorLanes h ≤ 32
+  unfolding vectorLanes
   lanes-in =
-      at-most 32 (embeddedRounding h) 32 _ (lit≤ tt)
+      at-most 32 (fullLength h) 32 _ (lit≤ tt)
       (at-most 32 (eqb (lengthBits h) 0) 8 _ (lit≤ tt) (at-most 32 (eqb (lengthBits h) 1) 16 32 (lit≤ tt) (lit≤ tt)))
 
   destination-in : destination h < 32
   destination-in = omega arith
-
-  first-in : (row : Row) → SourceIn (first h row)
-  unfolding first
-  first-in row = either SourceIn (hasFirst row) (omega arith) tt
 
   base-bits-in : baseBits h ≤ 7
   unfolding baseBits
@@ -98,25 +94,34 @@ module _ (h : Head) where
   second-in d =
       either OperandIn (registerForm h) (omega arith) (base-in, index-in)
 
-  size-in : size h ≤ 11
+module _ (h : Head) (row : Row) where
+  first-in : SourceIn (first h row)
+  unfolding first
+  first-in = either SourceIn (shape row .first) (omega arith) tt
+
+  elements-in : elements h row ≤ 32
+  unfolding elements
+  elements-in = lanes-in h
+
+  size-in : size h row ≤ 11
   unfolding size displacementAt displacementSize
   size-in =
       add-le-add (at-most 7 (hasSib h) 7 6 (lit≤ tt) (lit≤ tt))
       (at-most 4 (eqb (modBits h) 1) 1 _ (lit≤ tt) (at-most 4 (eqb (modBits h) 2 || noBase h) 4 0 (lit≤ tt) (lit≤ tt)))
 
-  size-least : 6 ≤ size h
+  pub size-least : 6 ≤ size h row
   unfolding size displacementAt
   size-least = le-trans (either (λ n. 6 ≤ n) (hasSib h) (lit≤ tt) (lit≤ tt)) (le-add-right _ (displacementSize h))
 
-  instruction-in : (row : Row) (d : ℤ) → Bounds (instruction h row d)
+  instruction-in : (d : ℤ) → Bounds (instruction h row d)
   unfolding instruction
-  instruction-in row d =
+  instruction-in d =
       record {
-        lanes = lanes-in;
+        elements = elements-in;
         mask = omega arith;
-        destination = destination-in;
-        first = first-in row;
-        second = second-in d;
+        destination = destination-in h;
+        first = first-in;
+        second = second-in h d;
         least = size-least;
         size = size-in;
       }
@@ -128,7 +133,7 @@ DecodedIn (Fields i) = Bounds i
 DecodedIn (Refused r) = Unit {0}
 
 fields-in : (h : Head) (code : List ℕ) (l : Listed) → DecodedIn (fields h code l)
-fields-in h code (Found row) = instruction-in h row (displacementOf h code)
+fields-in h code (Found row) = instruction-in h row (displacementOf h row code)
 fields-in h code Nothing = tt
 
 first-of : (cs : List (Bool × Refusal)) (d : Decoded) → DecodedIn d → DecodedIn (firstOf (map (λ c. (c .0, Refused (c .1))) cs) d)

@@ -1,19 +1,20 @@
 -- What `decode` returns, a law for each `return`: the tests on the way are the conditions before it, none of which holds.
 -- Assumes nothing.
-use mathlib.Core.Path.{_≡_, refl}
-use mathlib.Core.Bool.{Bool, true, false, cond, _||_}
-use mathlib.Core.List.{List, [], _∷_, map}
+use mathlib.Core.Path.{_≡_, refl, sym}
+use mathlib.Core.Bool.{Bool, true, false, cond}
+use mathlib.Core.List.{List, [], _∷_, _++_, map}
 use Prim.Native.Nat.{ℕ, _<_, _≤_}
 use borrow.Author.Tests.{ne-eqb, lt-ltb, le-ltb}
 use lib.ListN.{length, drop}
-use Rattle.lists.specs.Lists.{firstOf}
+use Rattle.lists.specs.Lists.{some, firstOf}
 use Rattle.evex.specs.Bits.{byte}
 use Rattle.evex.specs.Fields.{headOf, listed, size, displacementOf, instruction}
-use Rattle.evex.specs.Decode.{noBytes, wrongFirstByte, fewerThanSixBytes, wrongFixedBits, notInList, reservedLength}
-use Rattle.evex.specs.Decode.{zeroingWithoutMask, extraSource, bytesMissing, longerThanFifteenBytes, refusals, fields, decoded}
+use Rattle.evex.specs.Decode.{noBytes, wrongFirstByte, fewerThanSixBytes, wrongFixedBits, notInList, reservedForms, bytesMissing}
+use Rattle.evex.specs.Decode.{longerThanFifteenBytes, headConditions, rowConditions, refusals, fields, decoded}
 use Rattle.evex.specs.declared.head.Head.{Head}
 use Rattle.evex.specs.declared.list.Row.{Row}
 use Rattle.evex.specs.declared.list.Listed.the-variants.{Found, Nothing}
+use Rattle.evex.specs.declared.Refusal.{Refusal}
 use Rattle.evex.specs.declared.Refusal.the-variants.{Incomplete, Unlisted, Reserved, TooLong}
 use Rattle.evex.specs.declared.Decoded.{Decoded}
 use Rattle.evex.specs.declared.Decoded.the-variants.{Fields, Refused}
@@ -32,69 +33,74 @@ pub record Headed (code : List ℕ) (h : Head) : Type 0 where
   pub fixed : wrongFixedBits h ≡ false
 
 abbrev pub isReserved : Head → Row → Bool
-isReserved h row = reservedLength h || zeroingWithoutMask h || extraSource h (Found row)
+isReserved h row = some (λ reserved. reserved) (reservedForms h row)
 
 pub record Rowed (code : List ℕ) (h : Head) (row : Row) : Type 0 where
   pub headed : Headed code h
   pub found : listed h ≡ Found row
   pub plain : isReserved h row ≡ false
 
+-- ---- conditions with what they give
+
+abbrev pub answers : List (Bool × Refusal) → List (Bool × Decoded)
+answers cs = map (λ c. (c .0, Refused (c .1))) cs
+
+-- one refusal beside every condition of a list that stands before others
+of-any : (ts : List Bool) (r : Refusal) (cs : List (Bool × Refusal)) (d : Decoded)
+    → firstOf (answers (map (λ t. (t, r)) ts ++ cs)) d ≡ cond (some (λ t. t) ts) (Refused r) (firstOf (answers cs) d)
+of-any [] r cs d = refl
+of-any (true ∷ ts) r cs d = refl
+of-any (false ∷ ts) r cs d = of-any ts r cs d
+
 -- ---- the first three conditions
 
 module _ (code : List ℕ) where
   pub no-bytes : length code ≡ 0 → Refused Incomplete ≡ decoded code
-  unfolding decoded refusals noBytes
+  unfolding decoded refusals headConditions noBytes
   no-bytes e = rw e
 
   pub first-byte : (length code ≡ 0 → ⊥) → (byte code 0 ≡ 0x62 → ⊥) → Refused Unlisted ≡ decoded code
-  unfolding decoded refusals noBytes wrongFirstByte
+  unfolding decoded refusals headConditions noBytes wrongFirstByte
   first-byte some n = rw (ne-eqb (length code) 0 some, ne-eqb (byte code 0) 0x62 n)
 
   pub few-bytes : (length code ≡ 0 → ⊥) → byte code 0 ≡ 0x62 → length code < 6 → Refused Incomplete ≡ decoded code
-  unfolding decoded refusals noBytes wrongFirstByte fewerThanSixBytes
+  unfolding decoded refusals headConditions noBytes wrongFirstByte fewerThanSixBytes
   few-bytes some evex s = rw (ne-eqb (length code) 0 some, evex, lt-ltb (length code) 6 s)
 
   -- what is left of the order then
   rest : Begun code
-      → firstOf (map (λ c. (c .0, Refused (c .1))) (drop 3 (refusals code))) (fields (headOf code) code (listed (headOf code))) ≡ decoded
-      code
-  unfolding decoded refusals noBytes wrongFirstByte fewerThanSixBytes
+      → firstOf (answers (drop 3 (refusals code))) (fields (headOf code) code (listed (headOf code))) ≡ decoded code
+  unfolding decoded refusals headConditions noBytes wrongFirstByte fewerThanSixBytes
   rest g = rw (ne-eqb (length code) 0 (g .some), g .evex, le-ltb (length code) 6 (g .six))
 
 -- ---- the conditions of the head
 
--- one answer beside three conditions
-of-three : {A : Type 0} (a b c : Bool) (x y : A) → cond (a || b || c) x y ≡ cond a x (cond b x (cond c x y))
-of-three true b c x y = refl
-of-three false true c x y = refl
-of-three false false c x y = refl
-
 -- the last two conditions, and the fields
 abbrev ending : List ℕ → Head → Row → Decoded
 ending code h row =
-    firstOf ((bytesMissing h code, Refused Incomplete) ∷ (longerThanFifteenBytes h, Refused TooLong) ∷ [])
-    (Fields (instruction h row (displacementOf h code)))
+    firstOf ((bytesMissing h row code, Refused Incomplete) ∷ (longerThanFifteenBytes h row, Refused TooLong) ∷ [])
+    (Fields (instruction h row (displacementOf h row code)))
 
 module _ {code : List ℕ} {h : Head} where
   pub fixed-bits : Begun code → h ≡ headOf code → wrongFixedBits h ≡ true → Refused Reserved ≡ decoded code
-  unfolding refusals
+  unfolding refusals headConditions
   fixed-bits g e t = rw (← rest code g, ← e, t)
 
   pub unlisted : Headed code h → listed h ≡ Nothing → Refused Unlisted ≡ decoded code
-  unfolding refusals notInList
+  unfolding refusals headConditions notInList
   unlisted g n = rw (← rest code (g .begun), ← g .head, g .fixed, n)
 
   module _ {row : Row} where
     after-list : Headed code h → listed h ≡ Found row → cond (isReserved h row) (Refused Reserved) (ending code h row) ≡ decoded code
-    unfolding refusals notInList
+    unfolding refusals headConditions rowConditions notInList
     after-list g found =
         rw (← rest code (g .begun), ← g .head, g .fixed, found)
-        (of-three (reservedLength h) (zeroingWithoutMask h) (extraSource h (Found row)) (Refused Reserved) (ending code h row))
+        (sym (of-any (reservedForms h row) Reserved _ _))
 
     pub reserved : Headed code h → listed h ≡ Found row → isReserved h row ≡ true → Refused Reserved ≡ decoded code
     reserved g found t = rw (← after-list g found, t)
 
-    module _ (g : Rowed code h row) {n : ℕ} (e : n ≡ size h) where
+    module _ (g : Rowed code h row) {n : ℕ} (e : n ≡ size h row) where
       pub missing : length code < n → Refused Incomplete ≡ decoded code
       unfolding bytesMissing
       missing s = rw (← after-list (g .headed) (g .found), g .plain, ← e, lt-ltb (length code) n s)
@@ -104,6 +110,6 @@ module _ {code : List ℕ} {h : Head} where
         unfolding bytesMissing longerThanFifteenBytes
         too-long s = rw (← after-list (g .headed) (g .found), g .plain, ← e, le-ltb (length code) n whole, lt-ltb 15 n s)
 
-        pub accepted : n ≤ 15 → Fields (instruction h row (displacementOf h code)) ≡ decoded code
+        pub accepted : n ≤ 15 → Fields (instruction h row (displacementOf h row code)) ≡ decoded code
         unfolding bytesMissing longerThanFifteenBytes
         accepted s = rw (← after-list (g .headed) (g .found), g .plain, ← e, le-ltb (length code) n whole, le-ltb 15 n s)

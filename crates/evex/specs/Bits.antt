@@ -23,8 +23,8 @@ abbrev pub byte : List ℕ → ℕ → ℕ
 byte code at = getD code at 0
 
 -- R3.12: the number of four bytes from a place on, the lowest first.
-abbrev pub word : List ℕ → ℕ → ℕ
-word code at = numberAt code (at ∷ (at + 1) ∷ (at + 2) ∷ (at + 3) ∷ [])
+abbrev pub fourBytes : List ℕ → ℕ → ℕ
+fourBytes code at = numberAt code (at ∷ (at + 1) ∷ (at + 2) ∷ (at + 3) ∷ [])
 
 -- R3.12: the signed number that `width` bits stand for (two's complement).
 abbrev pub signed : ℕ → ℕ → ℤ

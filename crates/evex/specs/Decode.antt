@@ -1,14 +1,15 @@
 -- docs/RULES.md, R4.5 to R4.12: the refusals that an instruction's bytes decide, in their order, and its fields where none applies.
 use Prim.Native.Nat.{ℕ}
 use mathlib.Core.Bool.{Bool, true, false, not, _&&_, _||_}
-use mathlib.Core.List.{List, [], _∷_, map}
+use mathlib.Core.List.{List, [], _∷_, _++_, map}
 use lib.Dec.{eqb, ltb}
 use lib.ListN.{length}
 use Rattle.lists.specs.Lists.{firstOf}
 use Rattle.evex.specs.Bits.{isSet, byte}
-use Rattle.evex.specs.List.{hasFirst}
-use Rattle.evex.specs.Fields.{headOf, listed, lengthBits, embeddedRounding, z, aaa, firstSource, size, displacementOf, instruction}
+use Rattle.evex.specs.List.{shape}
+use Rattle.evex.specs.Fields.{headOf, listed, lengthBits, fullLength, z, aaa, firstSource, size, displacementOf, instruction}
 use Rattle.evex.specs.declared.head.Head.{Head}
+use Rattle.evex.specs.declared.list.Row.{Row}
 use Rattle.evex.specs.declared.list.Listed.{Listed}
 use Rattle.evex.specs.declared.list.Listed.the-variants.{Found, Nothing}
 use Rattle.evex.specs.declared.Refusal.{Refusal}
@@ -46,49 +47,69 @@ unfoldable pub notInList : Listed → Bool
 notInList (Found row) = false
 notInList Nothing = true
 
--- R4.10: length bits 3, but for embedded rounding.
+-- R4.10: length bits 3, but at full length. That holds of every row.
 unfoldable pub reservedLength : Head → Bool
-reservedLength h = eqb (lengthBits h) 3 && not (embeddedRounding h)
+reservedLength h = eqb (lengthBits h) 3 && not (fullLength h)
 
 -- R4.10: zeroing without a mask.
 unfoldable pub zeroingWithoutMask : Head → Bool
 zeroingWithoutMask h = z h && eqb (aaa h) 0
 
 -- R4.10: bits for a first source, where the row has none; five ones, stored inverted, are the number 0.
-unfoldable pub extraSource : Head → Listed → Bool
-extraSource h (Found row) = not (hasFirst row) && not (eqb (firstSource h) 0)
-extraSource h Nothing = false
+unfoldable pub extraSource : Head → Row → Bool
+extraSource h row = not (shape row .first) && not (eqb (firstSource h) 0)
+
+-- R4.10: the reserved forms, a line for each.
+unfoldable pub reservedForms : Head → Row → List Bool
+reservedForms h row =
+    reservedLength h
+    ∷ zeroingWithoutMask h
+    ∷ extraSource h row
+    ∷ []
 
 -- R4.11: there are fewer bytes than the instruction has. Where the SIB byte is missing the length counts it all the same.
-unfoldable pub bytesMissing : Head → List ℕ → Bool
-bytesMissing h code = ltb (length code) (size h)
+unfoldable pub bytesMissing : Head → Row → List ℕ → Bool
+bytesMissing h row code = ltb (length code) (size h row)
 
 -- R4.12: more than 15 bytes.
-unfoldable pub longerThanFifteenBytes : Head → Bool
-longerThanFifteenBytes h = ltb 15 (size h)
+unfoldable pub longerThanFifteenBytes : Head → Row → Bool
+longerThanFifteenBytes h row = ltb 15 (size h row)
 
--- R4.2: the order, from R4.5 to R4.12.
-unfoldable pub refusals : List ℕ → List (Bool × Refusal)
-refusals code =
+-- ---- R4.2: the order
+
+-- by the row, where there is one
+abbrev pub ofRow : {A : Type 0} → Listed → A → (Row → A) → A
+ofRow (Found row) otherwise f = f row
+ofRow Nothing otherwise f = otherwise
+
+-- from R4.5 to R4.9
+unfoldable pub headConditions : List ℕ → List (Bool × Refusal)
+headConditions code =
     let h : Head = headOf code in
     (noBytes code, Incomplete)
     ∷ (wrongFirstByte code, Unlisted)
     ∷ (fewerThanSixBytes code, Incomplete)
     ∷ (wrongFixedBits h, Reserved)
     ∷ (notInList (listed h), Unlisted)
-    ∷ (reservedLength h, Reserved)
-    ∷ (zeroingWithoutMask h, Reserved)
-    ∷ (extraSource h (listed h), Reserved)
-    ∷ (bytesMissing h code, Incomplete)
-    ∷ (longerThanFifteenBytes h, TooLong)
     ∷ []
+
+-- from R4.10 to R4.12
+unfoldable pub rowConditions : Head → List ℕ → Row → List (Bool × Refusal)
+rowConditions h code row =
+    map (λ reserved. (reserved, Reserved)) (reservedForms h row)
+    ++ ((bytesMissing h row code, Incomplete) ∷ (longerThanFifteenBytes h row, TooLong) ∷ [])
+
+-- all of them; where there is no row one of the head's has refused
+unfoldable pub refusals : List ℕ → List (Bool × Refusal)
+refusals code =
+    let h : Head = headOf code in
+    headConditions code ++ ofRow (listed h) [] (rowConditions h code)
 
 -- ---- R4.2: decoding
 
 -- The fields, where nothing refuses. (Without a row `notInList` has refused.)
 abbrev pub fields : Head → List ℕ → Listed → Decoded
-fields h code (Found row) = Fields (instruction h row (displacementOf h code))
-fields h code Nothing = Refused Unlisted
+fields h code l = ofRow l (Refused Unlisted) (λ row. Fields (instruction h row (displacementOf h row code)))
 
 -- The refusal that comes first, or else the fields. (R11.5 calls code decoded only where, besides, neither R4.3 nor R4.4 holds.)
 unfoldable pub decoded : List ℕ → Decoded

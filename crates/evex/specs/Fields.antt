@@ -5,8 +5,8 @@ use mathlib.Core.List.{List}
 use lib.Dec.{eqb}
 use lib.IntN.{ℤ, pos, _*ℤ_}
 use Rattle.half.specs.Modes.{modeOfBits}
-use Rattle.evex.specs.Bits.{bits, isSet, inverted, byte, word, signed}
-use Rattle.evex.specs.List.{rows, find, operation, hasFirst}
+use Rattle.evex.specs.Bits.{bits, isSet, inverted, byte, fourBytes, signed}
+use Rattle.evex.specs.List.{rows, find, operation, shape}
 use Rattle.evex.specs.declared.head.Head.{Head}
 use Rattle.evex.specs.declared.list.Row.{Row}
 use Rattle.evex.specs.declared.list.Listed.{Listed}
@@ -95,7 +95,7 @@ module _ (h : Head) where
   abbrev pub rm : ℕ
   rm = bits (h .modrm) 0 3
 
-  -- ---- the row and the operands
+  -- ---- the row, and the registers
 
   -- R4.9: the row of the list that these bytes have, if there is one.
   unfoldable pub listed : Listed
@@ -111,27 +111,19 @@ module _ (h : Head) where
   abbrev pub secondSource : ℕ
   secondSource = X * 16 + B * 8 + rm
 
-  -- R3.6: the first source, where the row has one.
-  unfoldable pub first : Row → Source
-  first row = cond (hasFirst row) (source.Register firstSource) source.None
-
   -- ---- the form
 
   -- R3.5: register form, else memory form.
   unfoldable pub registerForm : Bool
   registerForm = eqb modBits 3
 
-  -- R3.8: b in register form.
-  unfoldable pub embeddedRounding : Bool
-  embeddedRounding = registerForm && b
+  -- R3.8: b in register form. The vector has its full length then.
+  unfoldable pub fullLength : Bool
+  fullLength = registerForm && b
 
-  -- R3.7, R3.8: 32 with embedded rounding, else by the length bits.
-  unfoldable pub lanes : ℕ
-  lanes = cond embeddedRounding 32 (cond (eqb lengthBits 0) 8 (cond (eqb lengthBits 1) 16 32))
-
-  -- R3.8: whose mode counts.
-  unfoldable pub rounding : Rounding
-  rounding = cond embeddedRounding (Embedded (modeOfBits lengthBits)) Control
+  -- R3.7, R3.8: the lanes of a vector: 32 at full length, else by the length bits.
+  unfoldable pub vectorLanes : ℕ
+  vectorLanes = cond fullLength 32 (cond (eqb lengthBits 0) 8 (cond (eqb lengthBits 1) 16 32))
 
   -- ---- memory
 
@@ -164,37 +156,52 @@ module _ (h : Head) where
   unfoldable pub displacementSize : ℕ
   displacementSize = cond (eqb modBits 1) 1 (cond (eqb modBits 2 || noBase) 4 0)
 
-  -- R3.14: the instruction's length in bytes.
-  unfoldable pub size : ℕ
-  size = displacementAt + displacementSize
-
-  -- R3.13: the unit of a displacement of one byte. A lane has 2 bytes.
-  unfoldable pub N : ℕ
-  N = cond b 2 (2 * lanes)
-
-  -- R3.12, R3.13: the displacement, 0 where there is none.
-  unfoldable pub displacementOf : List ℕ → ℤ
-  displacementOf code =
-      cond (eqb displacementSize 1) (signed 8 (byte code displacementAt) *ℤ pos N)
-      (cond (eqb displacementSize 4) (signed 32 (word code displacementAt)) (pos 0))
-
   -- R3.6, R3.8: the second source, with the displacement that it has in memory; b is broadcast there.
   unfoldable pub second : ℤ → Operand
   second displacement =
       cond registerForm (operand.Register secondSource)
       (operand.Memory (record { base = baseOf; index = indexOf; displacement = displacement }) b)
 
-  -- R3.1: all fields, by the row of the list and the displacement.
-  unfoldable pub instruction : Row → ℤ → Instruction
-  instruction row displacement =
+-- ---- what the head says together with its row. A column of the shape that decides one of these stands in that one alone.
+module _ (h : Head) (row : Row) where
+  -- R2.2, R3.6: the first source, where there is one.
+  unfoldable pub first : Source
+  first = cond (shape row .first) (source.Register (firstSource h)) source.None
+
+  -- R3.7: the elements that the operation works on, one in each lane of a vector.
+  unfoldable pub elements : ℕ
+  elements = vectorLanes h
+
+  -- R3.8: whose mode counts.
+  unfoldable pub rounding : Rounding
+  rounding = cond (fullLength h) (Embedded (modeOfBits (lengthBits h))) Control
+
+  -- R3.14: the instruction's length in bytes.
+  unfoldable pub size : ℕ
+  size = displacementAt h + displacementSize h
+
+  -- R3.13: the unit of a displacement of one byte: an element, or all of them. An element has 2 bytes.
+  unfoldable pub N : ℕ
+  N = 2 * cond (b h) 1 elements
+
+  -- R3.12, R3.13: the displacement, 0 where there is none.
+  unfoldable pub displacementOf : List ℕ → ℤ
+  displacementOf code =
+      cond (eqb (displacementSize h) 1) (signed 8 (byte code (displacementAt h)) *ℤ pos N)
+      (cond (eqb (displacementSize h) 4) (signed 32 (fourBytes code (displacementAt h))) (pos 0))
+
+  -- R3.1: all fields, by the displacement.
+  unfoldable pub instruction : ℤ → Instruction
+  instruction displacement =
       record {
         operation = operation row;
-        lanes = lanes;
+        shape = shape row;
+        elements = elements;
         rounding = rounding;
-        zeroing = z;
-        mask = aaa;
-        destination = destination;
-        first = first row;
-        second = second displacement;
+        zeroing = z h;
+        mask = aaa h;
+        destination = destination h;
+        first = first;
+        second = second h displacement;
         size = size;
       }

@@ -5,28 +5,45 @@ use mathlib.Core.List.{List, [], _∷_}
 use lib.Dec.{eqb}
 use Rattle.evex.specs.declared.Operation.{Operation}
 use Rattle.evex.specs.declared.Operation.the-variants.{Add, Multiply, Subtract, Divide, SquareRoot, Fused132, Fused213, Fused231}
+use Rattle.evex.specs.declared.Shape.{Shape}
 use Rattle.evex.specs.declared.list.Row.{Row}
 use Rattle.evex.specs.declared.list.Listed.{Listed}
 use Rattle.evex.specs.declared.list.Listed.the-variants.{Found, Nothing}
 
--- R3.3: the prefixes that the list has.
+-- ---- R2.2: shapes
+
+-- two sources
+abbrev packed : Shape
+packed = record { first = true; accumulates = false }
+
+-- the second source alone
+abbrev root : Shape
+root = record { first = false; accumulates = false }
+
+-- two sources and the destination, to which is added or which is multiplied
+abbrev fused : Shape
+fused = record { first = true; accumulates = true }
+
+-- ---- R2.1: the table
+
+-- R3.3: the prefixes that it has
 abbrev none : ℕ
 none = 0
 
 abbrev p66 : ℕ
 p66 = 1
 
--- R2.1: the table. Prefix, map, W, opcode; the operation; whether there is a first source (R2.2).
+-- prefix, map, W, opcode; operation; shape
 unfoldable pub rows : List Row
 rows =
-    (none, 5, 0, 0x58, Add, true)
-    ∷ (none, 5, 0, 0x59, Multiply, true)
-    ∷ (none, 5, 0, 0x5C, Subtract, true)
-    ∷ (none, 5, 0, 0x5E, Divide, true)
-    ∷ (none, 5, 0, 0x51, SquareRoot, false)
-    ∷ (p66, 6, 0, 0x98, Fused132, true)
-    ∷ (p66, 6, 0, 0xA8, Fused213, true)
-    ∷ (p66, 6, 0, 0xB8, Fused231, true)
+    (none, 5, 0, 0x58, Add, packed)
+    ∷ (none, 5, 0, 0x59, Multiply, packed)
+    ∷ (none, 5, 0, 0x5C, Subtract, packed)
+    ∷ (none, 5, 0, 0x5E, Divide, packed)
+    ∷ (none, 5, 0, 0x51, SquareRoot, root)
+    ∷ (p66, 6, 0, 0x98, Fused132, fused)
+    ∷ (p66, 6, 0, 0xA8, Fused213, fused)
+    ∷ (p66, 6, 0, 0xB8, Fused231, fused)
     ∷ []
 
 -- ---- the columns by name
@@ -39,9 +56,9 @@ isFor r prefix map w opcode = eqb (r .0) prefix && eqb (r .1) map && eqb (r .2) 
 abbrev pub operation : Row → Operation
 operation r = r .4
 
--- R2.2: whether it has a first source.
-abbrev pub hasFirst : Row → Bool
-hasFirst r = r .5
+-- R2.2: its operands.
+abbrev pub shape : Row → Shape
+shape r = r .5
 
 -- R4.9: the row that has them, or that there is none.
 abbrev pub find : List Row → ℕ → ℕ → ℕ → ℕ → Listed

@@ -3,7 +3,7 @@ ghost use mathlib.Core.Path.{_≡_};
 ghost use Prim.Native.Nat.{_+_, _*_, _<_, _^_};
 ghost use lib.ListN.{getD};
 ghost use lib.IntN.{pos, _*ℤ_};
-ghost use Rattle.evex.specs.Bits.{bits, isSet, inverted, signed, word};
+ghost use Rattle.evex.specs.Bits.{bits, isSet, inverted, signed, fourBytes};
 
 // `width` bits of a byte, from bit `at` on.
 pub(crate) fn bits(x: u8, at: u8, width: u8) -> u8
@@ -61,9 +61,9 @@ fn wide(x: u8) -> u32
 }
 
 // The number of four bytes, the lowest first.
-pub(crate) fn word_at(code: &[u8], at: usize) -> u32
+pub(crate) fn four_bytes_at(code: &[u8], at: usize) -> u32
     requires { ⌜ at < 16 ⌝ }
-    ensures { λ r. ⌜ r ≡ word (now (code .entry)) at ⌝ }
+    ensures { λ r. ⌜ r ≡ fourBytes (now (code .entry)) at ⌝ }
 {
     wide(byte_at(code, at))
         + wide(byte_at(code, at + 1)) * 0x100

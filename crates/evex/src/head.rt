@@ -1,35 +1,25 @@
-// The bytes of an instruction up to its displacement, and what they say.
+// The bytes of an instruction up to its displacement, and what they say whatever their row.
 ghost use mathlib.Core.Path.{_≡_};
-ghost use mathlib.Core.Bool.{cond, _||_};
+ghost use mathlib.Core.Bool.{cond};
 ghost use Prim.Native.Nat.{_≤_, _<_};
 ghost use lib.ListN.{length};
 ghost use Rattle.evex.specs.Bits.{byte};
-ghost use Rattle.evex.specs.Fields.{takesSib, headOf, b, lengthBits, registerForm, embeddedRounding, listed, destination, firstSource};
-ghost use Rattle.evex.specs.Fields.{secondSource, first, lanes, rounding, hasSib, baseBits, noBase, baseOf, indexNumber, indexOf};
-ghost use Rattle.evex.specs.Fields.{displacementAt, displacementSize, size, N, displacementOf, second, instruction};
-ghost use Rattle.evex.specs.Decode.{wrongFixedBits, reservedLength, zeroingWithoutMask, extraSource};
-ghost use Rattle.evex.specs.declared.list.Listed.the-variants.{Found};
+ghost use Rattle.evex.specs.Fields.{takesSib, headOf, z, aaa, b, lengthBits, registerForm, fullLength, vectorLanes, listed, destination};
+ghost use Rattle.evex.specs.Fields.{firstSource, secondSource, hasSib, baseBits, noBase, baseOf, indexNumber, indexOf, displacementAt};
+ghost use Rattle.evex.specs.Fields.{displacementSize, second};
+ghost use Rattle.evex.specs.Decode.{wrongFixedBits, reservedLength, zeroingWithoutMask};
 use super::Address;
 use super::Base;
 use super::Index;
-use super::Instruction;
 use super::Operand;
-use super::Rounding;
-use super::Source;
 use super::bits::bits;
 use super::bits::byte_at;
 use super::bits::inverted;
 use super::bits::is_set;
 use super::bits::joined;
 use super::bits::register;
-use super::bits::scaled;
-use super::bits::signed8;
-use super::bits::signed32;
-use super::bits::word_at;
 use super::list::Listed;
-use super::list::Row;
 use super::list::find;
-use half::Mode;
 
 // R3.1. `sib` is 0 where there is no SIB byte.
 pub struct Head {
@@ -74,13 +64,26 @@ impl Head {
         }
     }
 
-    fn length_bits(self) -> u8
+    pub(crate) fn length_bits(self) -> u8
         ensures { λ r. ⌜ r ≡ lengthBits self ⌝ }
     {
         bits(self.byte3, 5, 2)
     }
 
-    fn has_b(self) -> bool
+    pub(crate) fn has_z(self) -> bool
+        ensures { λ r. ⌜ r ≡ z self ⌝ }
+    {
+        is_set(self.byte3, 7)
+    }
+
+    // The number of a mask.
+    pub(crate) fn mask(self) -> usize
+        ensures { λ r. ⌜ r ≡ aaa self ⌝ }
+    {
+        bits(self.byte3, 0, 3) as usize
+    }
+
+    pub(crate) fn has_b(self) -> bool
         ensures { λ r. ⌜ r ≡ b self ⌝ }
     {
         is_set(self.byte3, 4)
@@ -94,14 +97,14 @@ impl Head {
     }
 
     // R3.8: b in register form.
-    fn embeds_rounding(self) -> bool
-        ensures { λ r. ⌜ r ≡ embeddedRounding self ⌝ }
+    pub(crate) fn has_full_length(self) -> bool
+        ensures { λ r. ⌜ r ≡ fullLength self ⌝ }
     {
         self.is_register_form() & self.has_b()
     }
 
     // R3.6: R', R, reg.
-    fn destination(self) -> usize
+    pub(crate) fn destination(self) -> usize
         ensures { λ r. ⌜ r ≡ destination self ⌝ }
     {
         register(
@@ -112,7 +115,7 @@ impl Head {
     }
 
     // R3.6: V', vvvv.
-    fn first_source(self) -> usize
+    pub(crate) fn first_source(self) -> usize
         ensures { λ r. ⌜ r ≡ firstSource self ⌝ }
     {
         joined(inverted(self.byte3, 3, 1), 4, inverted(self.byte2, 3, 4)) as usize
@@ -129,22 +132,11 @@ impl Head {
         )
     }
 
-    // R2.2: VSQRTPH has none.
-    fn first(self, row: Row) -> Source
-        ensures { λ r. ⌜ r ≡ first self row ⌝ }
-    {
-        let has_first = row.5;
-        if has_first {
-            return Source::Register(self.first_source());
-        }
-        Source::None
-    }
-
     // R3.7, R3.8.
-    fn lanes(self) -> u8
-        ensures { λ r. ⌜ (r ≡ lanes self) × (r ≤ 32) ⌝ }
+    pub(crate) fn vector_lanes(self) -> u8
+        ensures { λ r. ⌜ (r ≡ vectorLanes self) × (r ≤ 32) ⌝ }
     {
-        if self.embeds_rounding() {
+        if self.has_full_length() {
             return 32;
         }
         match self.length_bits() {
@@ -152,16 +144,6 @@ impl Head {
             1 => 16,
             _ => 32,
         }
-    }
-
-    fn rounding(self) -> Rounding
-        ensures { λ r. ⌜ r ≡ rounding self ⌝ }
-    {
-        if self.embeds_rounding() {
-            let mode = Mode::of_bits(self.length_bits() as u32);
-            return Rounding::Embedded(mode);
-        }
-        Rounding::Control
     }
 
     fn has_sib(self) -> bool
@@ -220,7 +202,7 @@ impl Head {
         Index::None
     }
 
-    fn displacement_at(self) -> usize
+    pub(crate) fn displacement_at(self) -> usize
         ensures { λ r. ⌜ (r ≡ displacementAt self) × (r ≤ 7) ⌝ }
     {
         if self.has_sib() {
@@ -229,7 +211,7 @@ impl Head {
         6
     }
 
-    fn displacement_size(self) -> usize
+    pub(crate) fn displacement_size(self) -> usize
         ensures { λ r. ⌜ (r ≡ displacementSize self) × (r ≤ 4) ⌝ }
     {
         let form = bits(self.modrm, 6, 2);
@@ -242,38 +224,8 @@ impl Head {
         0
     }
 
-    // R3.14: the instruction's length in bytes.
-    pub(crate) fn size(self) -> usize
-        ensures { λ r. ⌜ r ≡ size self ⌝ }
-    {
-        self.displacement_at() + self.displacement_size()
-    }
-
-    // R3.13: N.
-    fn unit(self) -> u8
-        ensures { λ r. ⌜ r ≡ N self ⌝ }
-    {
-        if self.has_b() {
-            return 2;
-        }
-        2 * self.lanes()
-    }
-
-    pub(crate) fn displacement(self, code: &[u8]) -> i32
-        ensures { λ r. ⌜ r ≡ displacementOf self (now (code .entry)) ⌝ }
-    {
-        let at = self.displacement_at();
-        let bytes = self.displacement_size();
-        if bytes == 1 {
-            return scaled(signed8(byte_at(code, at)), self.unit());
-        }
-        if bytes == 4 {
-            return signed32(word_at(code, at));
-        }
-        0
-    }
-
-    fn second(self, displacement: i32) -> Operand
+    // R3.6, R3.8.
+    pub(crate) fn second(self, displacement: i32) -> Operand
         ensures { λ r. ⌜ r ≡ second self displacement ⌝ }
     {
         if self.is_register_form() {
@@ -289,26 +241,6 @@ impl Head {
         Operand::Memory {
             address,
             broadcast: self.has_b(),
-        }
-    }
-
-    pub(crate) fn instruction(self, row: Row, displacement: i32) -> Instruction
-        ensures { λ r. ⌜ r ≡ instruction self row displacement ⌝ }
-    {
-        let operation = row.4;
-        let rounding = self.rounding();
-        let first = self.first(row);
-        let second = self.second(displacement);
-        Instruction {
-            operation,
-            lanes: self.lanes() as usize,
-            rounding,
-            zeroing: is_set(self.byte3, 7),
-            mask: bits(self.byte3, 0, 3) as usize,
-            destination: self.destination(),
-            first,
-            second,
-            size: self.size(),
         }
     }
 
@@ -328,31 +260,17 @@ impl Head {
         find(prefix, map, w, self.opcode)
     }
 
-    // R4.10: length bits 3 without embedded rounding.
-    fn has_reserved_length(self) -> bool
+    // R4.10: length bits 3, but at full length.
+    pub(crate) fn has_reserved_length(self) -> bool
         ensures { λ r. ⌜ r ≡ reservedLength self ⌝ }
     {
-        (self.length_bits() == 3) & !self.embeds_rounding()
+        (self.length_bits() == 3) & !self.has_full_length()
     }
 
     // R4.10: z without a mask.
-    fn zeroes_without_mask(self) -> bool
+    pub(crate) fn zeroes_without_mask(self) -> bool
         ensures { λ r. ⌜ r ≡ zeroingWithoutMask self ⌝ }
     {
-        is_set(self.byte3, 7) & (bits(self.byte3, 0, 3) == 0)
-    }
-
-    // R4.10: VSQRTPH with bits for a first source.
-    fn has_extra_source(self, row: Row) -> bool
-        ensures { λ r. ⌜ r ≡ extraSource self (Found row) ⌝ }
-    {
-        let has_first = row.5;
-        !has_first & (self.first_source() != 0)
-    }
-
-    pub(crate) fn is_reserved(self, row: Row) -> bool
-        ensures { λ r. ⌜ r ≡ reservedLength self || zeroingWithoutMask self || extraSource self (Found row) ⌝ }
-    {
-        self.has_reserved_length() | self.zeroes_without_mask() | self.has_extra_source(row)
+        self.has_z() & (self.mask() == 0)
     }
 }

@@ -6,6 +6,7 @@ use head::Head;
 use list::Listed;
 
 mod bits;
+mod form;
 mod head;
 mod list;
 
@@ -18,6 +19,13 @@ pub enum Operation {
     Fused132,
     Fused213,
     Fused231,
+}
+
+// What the instructions of a row have in common beyond their operation (R2.2): whether there is a first source, and whether the
+// destination is a source too.
+pub struct Shape {
+    pub first: bool,
+    pub accumulates: bool,
 }
 
 // Whose rounding mode counts: the control word's, or the one that the instruction gives.
@@ -57,10 +65,12 @@ pub enum Operand {
     Memory { address: Address, broadcast: bool },
 }
 
-// The fields of an instruction. Lanes are 8, 16 or 32 (R3.7); the size is its length in bytes (R3.14).
+// The fields of an instruction. An element is what one operation works on, here a lane: 8, 16 or 32 (R3.7). The size is the length in
+// bytes (R3.14).
 pub struct Instruction {
     pub operation: Operation,
-    pub lanes: usize,
+    pub shape: Shape,
+    pub elements: usize,
     pub rounding: Rounding,
     pub zeroing: bool,
     pub mask: usize,
@@ -117,15 +127,15 @@ pub fn decode(code: &[u8]) -> Decoded
     let Listed::Found(row) = head.listed() else {
         return Decoded::Refused(Refusal::Unlisted);
     };
-    if head.is_reserved(row) {
+    if form::is_reserved(head, row) {
         return Decoded::Refused(Refusal::Reserved);
     }
-    let size = head.size();
+    let size = form::size(head, row);
     if code.len() < size {
         return Decoded::Refused(Refusal::Incomplete);
     }
     if 15 < size {
         return Decoded::Refused(Refusal::TooLong);
     }
-    Decoded::Fields(head.instruction(row, head.displacement(code)))
+    Decoded::Fields(form::instruction(head, row, form::displacement(head, row, code)))
 }

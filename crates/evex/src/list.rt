@@ -3,29 +3,62 @@ ghost use mathlib.Core.Path.{_≡_};
 ghost use mathlib.Core.List.{_∷_};
 ghost use Prim.Native.Nat.{_+_, _<_};
 ghost use lib.ListN.{length, drop};
-ghost use Rattle.evex.specs.List.{rows, find};
+ghost use Rattle.evex.specs.List.{rows, operation, shape, find};
 use super::Operation;
+use super::Shape;
 
-// Prefix bits, map, W, opcode; the operation; whether there is a first source.
-pub struct Row(pub u8, pub u8, pub u8, pub u8, pub Operation, pub bool);
+// A row of the table: prefix bits, map, W, opcode, operation, shape.
+pub struct Row(pub u8, pub u8, pub u8, pub u8, pub Operation, pub Shape);
 
 pub enum Listed {
     Found(Row),
     Nothing,
 }
 
+// R2.2: two sources; the second alone; two and the destination.
+const PACKED: Shape = Shape {
+    first: true,
+    accumulates: false,
+};
+
+const ROOT: Shape = Shape {
+    first: false,
+    accumulates: false,
+};
+
+const FUSED: Shape = Shape {
+    first: true,
+    accumulates: true,
+};
+
 const COUNT: usize = 8;
 
 const ROWS: [Row; COUNT] = [
-    Row(0, 5, 0, 0x58, Operation::Add, true),
-    Row(0, 5, 0, 0x59, Operation::Multiply, true),
-    Row(0, 5, 0, 0x5c, Operation::Subtract, true),
-    Row(0, 5, 0, 0x5e, Operation::Divide, true),
-    Row(0, 5, 0, 0x51, Operation::SquareRoot, false),
-    Row(1, 6, 0, 0x98, Operation::Fused132, true),
-    Row(1, 6, 0, 0xa8, Operation::Fused213, true),
-    Row(1, 6, 0, 0xb8, Operation::Fused231, true),
+    Row(0, 5, 0, 0x58, Operation::Add, PACKED),
+    Row(0, 5, 0, 0x59, Operation::Multiply, PACKED),
+    Row(0, 5, 0, 0x5c, Operation::Subtract, PACKED),
+    Row(0, 5, 0, 0x5e, Operation::Divide, PACKED),
+    Row(0, 5, 0, 0x51, Operation::SquareRoot, ROOT),
+    Row(1, 6, 0, 0x98, Operation::Fused132, FUSED),
+    Row(1, 6, 0, 0xa8, Operation::Fused213, FUSED),
+    Row(1, 6, 0, 0xb8, Operation::Fused231, FUSED),
 ];
+
+impl Row {
+    // The columns that are read once the row is found.
+
+    pub(crate) fn operation(self) -> Operation
+        ensures { λ r. ⌜ r ≡ operation self ⌝ }
+    {
+        self.4
+    }
+
+    pub(crate) fn shape(self) -> Shape
+        ensures { λ r. ⌜ r ≡ shape self ⌝ }
+    {
+        self.5
+    }
+}
 
 // Row i, which stands before the rest. A function of its own: its proof holds the whole table, and the search below none of it.
 fn row_at(i: usize) -> Row

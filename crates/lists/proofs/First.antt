@@ -43,3 +43,8 @@ holds-none (c ∷ cs) h e = go (c .0) refl (holds-none cs (h .1)) e
     go : (t : Bool) → c .0 ≡ t → (firstOf cs 0 ≡ 0 → NoneHolds cs) → cond t (c .1) (firstOf cs 0) ≡ 0 → NoneHolds (c ∷ cs)
     go true _ later e = absurd (h .0 e)
     go false f later e = (f, later e)
+
+-- where none of two lists holds, none of either does
+pub none-append : {A : Type 0} (xs ys : List (Bool × A)) → NoneHolds (xs ++ ys) → NoneHolds xs × NoneHolds ys
+none-append [] ys h = (tt, h)
+none-append (x ∷ xs) ys h = let l : NoneHolds xs × NoneHolds ys = none-append xs ys (h .1) in ((h .0, l .0), l .1)

@@ -9,7 +9,7 @@ use lib.ListN.{getD}
 -- ---- of all elements
 
 -- some element passes the test
-abbrev pub some : (ℕ → Bool) → List ℕ → Bool
+abbrev pub some : {A : Type 0} → (A → Bool) → List A → Bool
 some p [] = false
 some p (x ∷ xs) = p x || some p xs
 

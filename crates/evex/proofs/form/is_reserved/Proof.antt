@@ -1,7 +1,9 @@
--- `evex::head::Head::is_reserved` meets its contract: by its three parts.
+-- `evex::form::is_reserved` meets its contract: form by form, in the order of the list.
+use mathlib.Core.Bool.{or-false}
+use Rattle.evex.specs.Decode.{reservedForms}
 use borrow.Author.Needs.{needs}
-use Rattle.evex.proofs.head.Head.is_reserved.Statement.{statement}
-use Rattle.evex.proofs.head.Head.is_reserved.Tie as tie
+use Rattle.evex.proofs.form.is_reserved.Statement.{statement}
+use Rattle.evex.proofs.form.is_reserved.Tie as tie
 
 has-reserved-length-requires : tie.Need-has-reserved-length-requires
 has-reserved-length-requires c κs = search needs
@@ -13,7 +15,14 @@ has-extra-source-requires : tie.Need-has-extra-source-requires
 has-extra-source-requires c κs = search needs
 
 returns : tie.Need-returns
-returns c = rw (c .before .before .has-reserved-length .ensures, c .before .zeroes-without-mask .ensures, c .has-extra-source .ensures)
+unfolding reservedForms
+returns c =
+    rw (
+      c .before .before .has-reserved-length .ensures,
+      c .before .zeroes-without-mask .ensures,
+      c .has-extra-source .ensures,
+      or-false _,
+    )
 
 pub is-reserved-spec : {M : Type 1} → statement M
 is-reserved-spec =

@@ -1,11 +1,11 @@
--- `evex::head::Head::displacement` meets its contract: by the size; the signed numbers are read back as they are.
+-- `evex::form::displacement` meets its contract: by the size; the signed numbers are read back as they are.
 use borrow.Author.Tests.{ne-eqb}
 use mir.Syntax.{w8, w32}
 use mir.Facts.{toZ-ofZ}
 use Rattle.evex.specs.Fields.{displacementOf}
 use borrow.Author.Needs.{needs}
-use Rattle.evex.proofs.head.Head.displacement.Statement.{statement}
-use Rattle.evex.proofs.head.Head.displacement.Tie as tie
+use Rattle.evex.proofs.form.displacement.Statement.{statement}
+use Rattle.evex.proofs.form.displacement.Tie as tie
 
 displacement-at-requires : tie.Need-displacement-at-requires
 displacement-at-requires c κs = search needs
@@ -40,8 +40,8 @@ returns c =
       c .before .before .before .before .if1 .taken,
     )
 
-word-at-requires : tie.Need-word-at-requires
-word-at-requires c κs = search needs
+four-bytes-at-requires : tie.Need-four-bytes-at-requires
+four-bytes-at-requires c κs = search needs
 
 signed32-requires : tie.Need-signed32-requires
 signed32-requires c κs = search needs
@@ -52,7 +52,7 @@ returns-2 c =
     rw (
       toZ-ofZ {w = w32} {z = c .signed32 .result} (record { sfits = c .signed32 .ok }),
       c .signed32 .ensures,
-      c .before .word-at .ensures,
+      c .before .four-bytes-at .ensures,
       ← c .before .before .before .before .displacement-size .ensures .0,
       ← c .before .before .before .before .before .displacement-at .ensures .0,
       c .before .before .if2 .taken,
@@ -73,7 +73,7 @@ displacement-spec =
     unit-requires
     scaled-requires
     returns
-    word-at-requires
+    four-bytes-at-requires
     signed32-requires
     returns-2
     returns-3)

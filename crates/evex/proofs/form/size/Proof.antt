@@ -1,8 +1,8 @@
--- `evex::head::Head::size` meets its contract: by its two parts.
+-- `evex::form::size` meets its contract: by its two parts.
 use Rattle.evex.specs.Fields.{size}
 use borrow.Author.Needs.{needs}
-use Rattle.evex.proofs.head.Head.size.Statement.{statement}
-use Rattle.evex.proofs.head.Head.size.Tie as tie
+use Rattle.evex.proofs.form.size.Statement.{statement}
+use Rattle.evex.proofs.form.size.Tie as tie
 
 displacement-at-requires : tie.Need-displacement-at-requires
 displacement-at-requires c κs = search needs

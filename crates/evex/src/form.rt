@@ -1,0 +1,115 @@
+// What a head says together with its row: the fields that a column of the row decides, and the reserved forms.
+ghost use mathlib.Core.Path.{_≡_};
+ghost use Prim.Native.Nat.{_≤_};
+ghost use Rattle.lists.specs.Lists.{some};
+ghost use Rattle.evex.specs.Fields.{first, elements, rounding, size, N, displacementOf, instruction};
+ghost use Rattle.evex.specs.Decode.{extraSource, reservedForms};
+use super::Instruction;
+use super::Rounding;
+use super::Source;
+use super::bits::byte_at;
+use super::bits::four_bytes_at;
+use super::bits::scaled;
+use super::bits::signed8;
+use super::bits::signed32;
+use super::head::Head;
+use super::list::Row;
+use half::Mode;
+
+// R2.2: where there is one.
+fn first(head: Head, row: Row) -> Source
+    ensures { λ r. ⌜ r ≡ first head row ⌝ }
+{
+    let shape = row.shape();
+    if shape.first {
+        return Source::Register(head.first_source());
+    }
+    Source::None
+}
+
+// R3.7: one in each lane.
+fn elements(head: Head, row: Row) -> u8
+    ensures { λ r. ⌜ (r ≡ elements head row) × (r ≤ 32) ⌝ }
+{
+    head.vector_lanes()
+}
+
+// R3.8.
+fn rounding(head: Head, row: Row) -> Rounding
+    ensures { λ r. ⌜ r ≡ rounding head row ⌝ }
+{
+    if head.has_full_length() {
+        let mode = Mode::of_bits(head.length_bits() as u32);
+        return Rounding::Embedded(mode);
+    }
+    Rounding::Control
+}
+
+// R3.14: the instruction's length in bytes.
+pub(crate) fn size(head: Head, row: Row) -> usize
+    ensures { λ r. ⌜ r ≡ size head row ⌝ }
+{
+    head.displacement_at() + head.displacement_size()
+}
+
+// R3.13: N.
+fn unit(head: Head, row: Row) -> u8
+    ensures { λ r. ⌜ r ≡ N head row ⌝ }
+{
+    if head.has_b() {
+        return 2;
+    }
+    2 * elements(head, row)
+}
+
+// R3.12.
+pub(crate) fn displacement(head: Head, row: Row, code: &[u8]) -> i32
+    ensures { λ r. ⌜ r ≡ displacementOf head row (now (code .entry)) ⌝ }
+{
+    let at = head.displacement_at();
+    let bytes = head.displacement_size();
+    if bytes == 1 {
+        return scaled(signed8(byte_at(code, at)), unit(head, row));
+    }
+    if bytes == 4 {
+        return signed32(four_bytes_at(code, at));
+    }
+    0
+}
+
+pub(crate) fn instruction(head: Head, row: Row, displacement: i32) -> Instruction
+    ensures { λ r. ⌜ r ≡ instruction head row displacement ⌝ }
+{
+    let operation = row.operation();
+    let shape = row.shape();
+    let rounding = rounding(head, row);
+    let first = first(head, row);
+    let second = head.second(displacement);
+    Instruction {
+        operation,
+        shape,
+        elements: elements(head, row) as usize,
+        rounding,
+        zeroing: head.has_z(),
+        mask: head.mask(),
+        destination: head.destination(),
+        first,
+        second,
+        size: size(head, row),
+    }
+}
+
+// R4.10: bits for a first source, where there is none.
+fn has_extra_source(head: Head, row: Row) -> bool
+    ensures { λ r. ⌜ r ≡ extraSource head row ⌝ }
+{
+    let shape = row.shape();
+    !shape.first & (head.first_source() != 0)
+}
+
+// R4.10: one of the reserved forms.
+pub(crate) fn is_reserved(head: Head, row: Row) -> bool
+    ensures { λ r. ⌜ r ≡ some (λ reserved. reserved) (reservedForms head row) ⌝ }
+{
+    head.has_reserved_length() | (head.zeroes_without_mask() | has_extra_source(head, row))
+}
