@@ -19,7 +19,8 @@ use Rattle.evex.specs.declared.Operation.{Operation}
 use Rattle.evex.specs.declared.Operation.the-variants.{Add, Multiply, Subtract, Divide, SquareRoot, Fused132, Fused213, Fused231}
 use Rattle.machine.specs.State.{State}
 use Rattle.machine.specs.Memory.{on}
-use Rattle.machine.specs.Lanes.{Sources, laneOutcome, raised}
+use Rattle.machine.specs.Lanes.{Sources, operated, raised}
+use Rattle.machine.specs.declared.Environment.{Environment}
 use Rattle.evex.specs.declared.Instruction.{Instruction}
 
 pub record Six (o : Outcome) : Type 0 where
@@ -65,19 +66,46 @@ sum-six m u sx x sy y d = search (picked, rounded-six, exactly-six)
 
 ruleset pieces = (nan-six, invalid-six, zero-divide-six, denormals-six, exactly-six, rounded-six, sum-six, picked)
 
--- ---- the operations, a lane, all lanes
+-- ---- the operations
 
-lane-six : (op : Operation) (m : Mode) (u : Bool) (d f x : ℕ) → Six (laneOutcome op m u d f x)
-unfolding laneOutcome halfAdd halfSubtract halfMultiply halfDivide halfRoot halfMultiplyAdd
-lane-six Add m u d f x = search pieces depth 10
-lane-six Multiply m u d f x = search pieces depth 10
-lane-six Subtract m u d f x = search pieces depth 10
-lane-six Divide m u d f x = search pieces depth 10
-lane-six SquareRoot m u d f x = search pieces depth 10
-lane-six Fused132 m u d f x = search pieces depth 10
-lane-six Fused213 m u d f x = search pieces depth 10
-lane-six Fused231 m u d f x = search pieces depth 10
+module _ (m : Mode) (u : Bool) where
+  add-six : (f x : ℕ) → Six (halfAdd m u f x)
+  unfolding halfAdd
+  add-six f x = search pieces depth 10
+
+  subtract-six : (f x : ℕ) → Six (halfSubtract m u f x)
+  unfolding halfSubtract halfAdd
+  subtract-six f x = search pieces depth 10
+
+  multiply-six : (f x : ℕ) → Six (halfMultiply m u f x)
+  unfolding halfMultiply
+  multiply-six f x = search pieces depth 10
+
+  divide-six : (f x : ℕ) → Six (halfDivide m u f x)
+  unfolding halfDivide
+  divide-six f x = search pieces depth 10
+
+  root-six : (x : ℕ) → Six (halfRoot m u x)
+  unfolding halfRoot
+  root-six x = search pieces depth 10
+
+  fused-six : (a b c : ℕ) → Six (halfMultiplyAdd m u a b c)
+  unfolding halfMultiplyAdd
+  fused-six a b c = search pieces depth 10
+
+-- ---- an element, all lanes
+
+operated-six : (op : Operation) (e : Environment) (d f x : ℕ) → operated op e d f x .flags < 64
+unfolding operated
+operated-six Add e d f x = add-six (e .mode) (e .underflow) f x .six
+operated-six Multiply e d f x = multiply-six (e .mode) (e .underflow) f x .six
+operated-six Subtract e d f x = subtract-six (e .mode) (e .underflow) f x .six
+operated-six Divide e d f x = divide-six (e .mode) (e .underflow) f x .six
+operated-six SquareRoot e d f x = root-six (e .mode) (e .underflow) x .six
+operated-six Fused132 e d f x = fused-six (e .mode) (e .underflow) d x f .six
+operated-six Fused213 e d f x = fused-six (e .mode) (e .underflow) f d x .six
+operated-six Fused231 e d f x = fused-six (e .mode) (e .underflow) f x d .six
 
 pub raised-below : (s : State) (i : Instruction) (g : Sources) → raised s i g < 64
 unfolding raised
-raised-below s i g = or-table-below 6 32 _ (λ j. either (λ n. n < 64) (on s i j) (lane-six (i .operation) _ _ _ _ _ .six) (lit≤ tt))
+raised-below s i g = or-table-below 6 32 _ (λ j. either (λ n. n < 64) (on s i j) (operated-six (i .operation) _ _ _ _) (lit≤ tt))

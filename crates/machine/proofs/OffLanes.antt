@@ -17,7 +17,7 @@ use Rattle.evex.proofs.Bounds.{bounds}
 use Rattle.lists.specs.Lists.{some, table}
 use Rattle.lists.proofs.Tables.{some-has, some-member, table-member, member-table, meets, or-meets}
 use Rattle.machine.specs.State.{State}
-use Rattle.machine.specs.Memory.{on, bytesRead, needsOutside}
+use Rattle.machine.specs.Memory.{on, bytesRead, outside, needsOutside}
 use Rattle.machine.specs.Lanes.{Sources, unmasked, laneOf, raised, raisesUnmasked}
 use Rattle.machine.specs.TwoRuns.{Needs}
 use Rattle.machine.specs.OffLanes.{Faults, Raises, Flags, OffLanes}
@@ -25,14 +25,14 @@ use Rattle.machine.specs.OffLanes.{Faults, Raises, Flags, OffLanes}
 module _ (s : State) (code : List ℕ) (i : Instruction) (fields : decoded code ≡ Fields i) where
   on-below : (j : ℕ) → on s i j ≡ true → j < 32
   unfolding on
-  on-below j h = omega (arith, ltb-true j (i .lanes) (and-eq-true-iff _ _ .0 h .0), bounds code fields .lanes)
+  on-below j h = omega (arith, ltb-true j (i .elements) (and-eq-true-iff _ _ .0 h .0), bounds code fields .elements)
 
   module _ (n : ℕ) where
     abbrev reads : ℕ → Bool
     reads j = on s i j && some (λ a. leb n a) (bytesRead s i (i .second) j)
 
     found : needsOutside s i n ≡ true → (a : ℕ) × Needs s i a × (n ≤ a)
-    unfolding needsOutside
+    unfolding needsOutside outside
     found e =
         let l : (j : ℕ) × List·Memᴰ j (table 32 (λ j. j)) × (reads j ≡ true) = some-member reads _ e in
         let b : (on s i (l .0) ≡ true) × (some (λ a. leb n a) (bytesRead s i (i .second) (l .0)) ≡ true) = and-eq-true-iff _ _ .0 (l .2) in
@@ -40,7 +40,7 @@ module _ (s : State) (code : List ℕ) (i : Instruction) (fields : decoded code 
         (k .0, (l .0, b .0, k .1), leb-true n (k .0) (k .2))
 
     finds : (a : ℕ) × Needs s i a × (n ≤ a) → needsOutside s i n ≡ true
-    unfolding needsOutside
+    unfolding needsOutside outside
     finds k =
         let j : ℕ = k .1 .0 in
         some-has reads (table 32 (λ j. j)) (table-member 32 (λ j. j) j (on-below j (k .1 .1)))

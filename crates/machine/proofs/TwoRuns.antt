@@ -1,28 +1,29 @@
 -- R11.7: the two-run theorem of specs/TwoRuns.antt.
 --
 -- A step looks at the vector file and the memory in three ways: at their lengths; through `gathered`, only at lanes that are on and at
--- bytes that these need (`gathered-equal`); and at the destination's own bytes, each of which is kept at its place (`written-alike`).
+-- bytes that these need (`gathered-equal`); and at bytes that are copied, each from the same lane of a register (`filled-equal`).
 -- Everything else is computed from the registers, the bytes and what was gathered, which are equal in both runs (`.. same`).
 -- Assumes nothing.
-use Prim.Native.Nat.{ℕ, suc, _+_, _≤_, _<_}
+use Prim.Native.Nat.{ℕ, suc, _+_, _/_, _≤_, _<_}
 use mathlib.Core.Path.{_≡_, refl, sym, ap, _∙_, subst}
-use mathlib.Core.Bool.{true}
+use mathlib.Core.Bool.{Bool, true}
 use mathlib.Core.List.{List, [], _∷_}
 use native.Mathlib.Omega.{arith}
-use lib.ListN.{length, getD, take, drop}
+use lib.ListN.{length, getD}
 use Rattle.evex.specs.declared.Source.{Source}
 use Rattle.evex.specs.declared.Source.the-variants as source
-use Rattle.evex.specs.declared.Operand.{Operand}
-use Rattle.evex.specs.declared.Operand.the-variants as operand
 use Rattle.evex.specs.declared.Instruction.{Instruction}
 use Rattle.evex.proofs.Bounds.{bounds}
 use Rattle.lists.specs.Lists.{Each}
 use Rattle.lists.proofs.Tests.{either-related, either-equal}
-use Rattle.lists.proofs.Tables.{table-equal, length-table, getD-table, part-at}
+use Rattle.lists.proofs.Tables.{table-equal, length-table, getD-table}
 use Rattle.machine.specs.State.{State, registerAt, lanePlaces}
-use Rattle.machine.specs.Memory.{on, nextPointer, bytesRead, needsOutside}
-use Rattle.machine.specs.Lanes.{Sources, registerHalves, memoryHalves, firstHalves, secondHalves, gathered, results, raised}
-use Rattle.machine.specs.Lanes.{raisesUnmasked, controlAfter, newByte, newRegister, vectorsAfter}
+use Rattle.machine.specs.Memory.{located, bytesAt, on, operandOf, bytesRead, needsOutside}
+use Rattle.machine.specs.Lanes.{Sources, registerHalves, memoryHalves, noHalves, destinationHalves, firstHalves, secondHalves, gathered}
+use Rattle.machine.specs.Lanes.{results, raised, raisesUnmasked, controlAfter, Fill, computed, copied, zeroed, fill, filled, newRegister}
+use Rattle.machine.specs.Lanes.{vectorsWith, vectorsAfter}
+use Rattle.machine.specs.declared.Located.{Located}
+use Rattle.machine.specs.declared.Located.the-variants as place
 use Rattle.machine.specs.Step.{wrongVectorFile, highControlBit, beforeSeven, refused, stopped, completed, step, run}
 use Rattle.machine.specs.TwoRuns.{EqualOpen, laneNumber, Alike, AlikeAfter, AlikeThroughout, HiddenUnused, HiddenUnusedThroughout}
 use Rattle.machine.specs.TwoRuns.{TwoRuns}
@@ -42,7 +43,7 @@ module _ (s : State) (v : List ℕ) where
 
   module _ (i : Instruction) where
     outside-same : (n : ℕ) → needsOutside (withVectors s v) i n ≡ needsOutside s i n
-    unfolding needsOutside on bytesRead
+    unfolding needsOutside on
     outside-same n = refl
 
     raises-same : (g : Sources) → raisesUnmasked (withVectors s v) i g ≡ raisesUnmasked s i g
@@ -56,6 +57,10 @@ module _ (s : State) (v : List ℕ) where
     results-same : (g : Sources) → results (withVectors s v) i g ≡ results s i g
     unfolding results on
     results-same g = refl
+
+    fill-same : fill (withVectors s v) i ≡ fill s i
+    unfolding fill on
+    fill-same = refl
 
 module _ (HiddenLane HiddenByte : ℕ → Type 0) where
   abbrev HiddenPlace : ℕ → Type 0
@@ -76,59 +81,61 @@ module _ (HiddenLane HiddenByte : ℕ → Type 0) where
       registers-equal n =
           table-equal 32 (λ j k. either-equal 0 (on s i j) (λ t. numbers-equal files (lanePlaces n j) (lane-open _ n j k (lanes j t))))
 
+      destination-equal : (t : Bool) (n : ℕ) → destinationHalves (on s i) (s .vectors) t n ≡ destinationHalves (on s i) v t n
+      destination-equal t n = either-equal noHalves t (λ _. registers-equal n)
+
       first-equal : (x : Source) → firstHalves (on s i) (s .vectors) x ≡ firstHalves (on s i) v x
       first-equal source.None = refl
       first-equal (source.Register n) = registers-equal n
 
-      second-equal : (x : Operand) → ((j : ℕ) → on s i j ≡ true → Each (λ a. a < length memory₁ → ¬ HiddenByte a) (bytesRead s i x j))
-          → secondHalves (on s i) (s .vectors) memory₁ (s .general) (nextPointer s i) x ≡ secondHalves (on s i) v memory₂ (s .general)
-          (nextPointer s i) x
-      unfolding bytesRead memoryHalves
-      second-equal (operand.Register n) bytes = registers-equal n
-      second-equal (operand.Memory a broadcast) bytes =
-          table-equal 32 (λ j k. either-equal 0 (on s i j)
-          (λ t. numbers-equal memories (bytesRead s i (operand.Memory a broadcast) j) (bytes j t)))
+      second-equal : (x : Located) → ((j : ℕ) → on s i j ≡ true → Each (λ a. a < length memory₁ → ¬ HiddenByte a) (bytesAt x j))
+          → secondHalves (on s i) (s .vectors) memory₁ x ≡ secondHalves (on s i) v memory₂ x
+      unfolding memoryHalves
+      second-equal (place.Register n) bytes = registers-equal n
+      second-equal (place.Words at broadcast) bytes =
+          table-equal 32
+          (λ j k. either-equal 0 (on s i j) (λ t. numbers-equal memories (bytesAt (place.Words at broadcast) j) (bytes j t)))
 
       gathered-equal : ((j : ℕ) → on s i j ≡ true → Each (λ a. a < length memory₁ → ¬ HiddenByte a) (bytesRead s i (i .second) j))
           → gathered memory₁ s i ≡ gathered memory₂ (withVectors s v) i
       unfolding gathered on
       gathered-equal bytes = λ x.
           record {
-            destination = registers-equal (i .destination) x;
+            destination = destination-equal (i .shape .accumulates) (i .destination) x;
             first = first-equal (i .first) x;
-            second = second-equal (i .second) bytes x;
+            second = second-equal (operandOf s i) bytes x;
           }
 
     -- ---- what is written
 
-    module _ (halves : List ℕ) where
-      -- the destination's bytes in a state
-      abbrev old : State → List ℕ
-      old t = take 64 (drop (registerAt (i .destination)) (t .vectors))
+    module _ (how : ℕ → Fill) (halves : List ℕ) (n : ℕ) where
+      -- what is copied comes from the same lane of some register
+      filled-equal : (k : ℕ) → k < 64 → ¬ HiddenPlace (registerAt n + k) → (f : Fill)
+          → filled (s .vectors) halves k f ≡ filled v halves k f
+      filled-equal k h o computed = refl
+      filled-equal k h o (copied m) = equal-at files (registerAt m + k) (λ _. subst (λ (x : ℕ). ¬ HiddenLane x) (omega arith) o)
+      filled-equal k h o zeroed = refl
 
-      new-length : (t : State) → length (newRegister t i halves (old t)) ≡ 64
+      new-byte : (vectors : List ℕ) (k : ℕ) → k < 64 → getD (newRegister how vectors halves) k 0 ≡ filled vectors halves k (how (k / 2))
       unfolding newRegister
-      new-length t = length-table 64 _
+      new-byte vectors k h = getD-table 64 _ k 0 h
 
-      -- each anew, from the one at its place
-      new-byte : (t : State) (k : ℕ) → k < 64
-          → getD (newRegister t i halves (old t)) k 0 ≡ newByte t i halves k (getD (t .vectors) (registerAt (i .destination) + k) 0)
+      new-length : (vectors : List ℕ) → length (newRegister how vectors halves) ≡ 64
       unfolding newRegister
-      new-byte t k h =
-          getD-table 64 _ k 0 h
-          ∙ ap (newByte t i halves k)
-          (part-at (t .vectors) (registerAt (i .destination)) 64 k 0 h)
+      new-length vectors = length-table 64 _
 
-      written-alike : registerAt (i .destination) + 64 ≤ length (s .vectors)
-          → EqualOpen HiddenPlace (vectorsAfter s i halves) (vectorsAfter (withVectors s v) i halves)
-      unfolding vectorsAfter on
-      written-alike fits =
-          paste-equal (registerAt (i .destination)) 64 (newRegister s i halves (old s))
-          (newRegister (withVectors s v) i halves (old (withVectors s v)))
-          files fits (new-length s) (new-length (withVectors s v))
-          (λ k h o. new-byte s k h
-          ∙ ap (newByte s i halves k) (equal-at files (registerAt (i .destination) + k) (λ _. o))
-          ∙ sym (new-byte (withVectors s v) k h))
+      filled-alike : registerAt n + 64 ≤ length (s .vectors)
+          → EqualOpen HiddenPlace (vectorsWith how halves n (s .vectors)) (vectorsWith how halves n v)
+      unfolding vectorsWith
+      filled-alike fits =
+          paste-equal (registerAt n) 64 (newRegister how (s .vectors) halves) (newRegister how v halves)
+          files fits (new-length (s .vectors)) (new-length v)
+          (λ k h o. new-byte (s .vectors) k h ∙ filled-equal k h o (how (k / 2)) ∙ sym (new-byte v k h))
+
+    written-alike : (halves : List ℕ) → registerAt (i .destination) + 64 ≤ length (s .vectors)
+        → EqualOpen HiddenPlace (vectorsAfter s i halves) (vectorsAfter (withVectors s v) i halves)
+    unfolding vectorsAfter
+    written-alike halves fits = rw (fill-same s v i) (filled-alike (fill s i) halves (i .destination) fits)
 
   -- ---- a step
 

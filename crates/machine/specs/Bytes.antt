@@ -30,7 +30,8 @@ adds rounding zeroing mask second size =
     Fields
     (record {
       operation = Add;
-      lanes = 32;
+      shape = record { first = true; accumulates = false };
+      elements = 32;
       rounding = rounding;
       zeroing = zeroing;
       mask = mask;

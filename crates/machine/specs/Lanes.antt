@@ -1,10 +1,10 @@
 -- docs/RULES.md, sections 5 and 7: what a decoded instruction computes. Sources, lanes, flags, the destination's new bytes.
-use Prim.Native.Nat.{ℕ, _/_, _%_, _^_}
+use Prim.Native.Nat.{ℕ, _+_, _/_, _%_, _^_}
 use mathlib.Core.Bool.{Bool, cond, not, _&&_}
 use mathlib.Core.List.{List}
 use lib.Bits.{bitAnd, bitOr}
 use lib.Dec.{eqb, ltb}
-use lib.ListN.{getD, take, drop}
+use lib.ListN.{getD}
 use lib.Seq.{paste}
 use Rattle.half.specs.Operations.{halfAdd, halfSubtract, halfMultiply, halfDivide, halfRoot, halfMultiplyAdd}
 use Rattle.half.specs.declared.Mode.{Mode}
@@ -17,11 +17,13 @@ use Rattle.evex.specs.declared.Rounding.{Rounding}
 use Rattle.evex.specs.declared.Rounding.the-variants.{Control, Embedded}
 use Rattle.evex.specs.declared.Source.{Source}
 use Rattle.evex.specs.declared.Source.the-variants as source
-use Rattle.evex.specs.declared.Operand.{Operand}
-use Rattle.evex.specs.declared.Operand.the-variants as operand
 use Rattle.evex.specs.declared.Instruction.{Instruction}
 use Rattle.machine.specs.State.{State, registerAt, lanePlaces, unmaskedFlags, controlMode}
-use Rattle.machine.specs.Memory.{addressFrom, wordFrom, wordBytes, on, nextPointer}
+use Rattle.machine.specs.Memory.{wordFrom, wordBytes, on, operandOf}
+use Rattle.machine.specs.declared.Located.{Located}
+use Rattle.machine.specs.declared.Located.the-variants as place
+use Rattle.machine.specs.declared.Environment.{Environment}
+use Rattle.machine.specs.declared.Element.{Element}
 
 -- ---- R7.5: what embedded rounding puts in the place of the control word
 
@@ -35,9 +37,9 @@ abbrev pub unmasked : Rounding → ℕ → ℕ
 unmasked Control control = unmaskedFlags control
 unmasked (Embedded mode) control = 0
 
--- UE, bit 4, is one of them
-abbrev pub unmaskedUE : Rounding → ℕ → Bool
-unmaskedUE rounding control = isSet (unmasked rounding control) 4
+-- what an operation is told of them: the mode, and whether UE (bit 4) is unmasked
+abbrev pub environmentOf : Rounding → ℕ → Environment
+environmentOf rounding control = record { mode = roundingMode rounding control; underflow = isSet (unmasked rounding control) 4 }
 
 -- R7.2: the control word with flags set in it, and all its other bits kept (R1.6)
 abbrev pub recorded : Rounding → ℕ → ℕ → ℕ
@@ -64,49 +66,64 @@ registerHalves on vectors n = lanesOn on (λ j. numberAt vectors (lanePlaces n j
 unfoldable pub memoryHalves : (ℕ → Bool) → List ℕ → ℕ → Bool → List ℕ
 memoryHalves on memory address broadcast = lanesOn on (λ j. numberAt memory (wordBytes (wordFrom address broadcast j)))
 
+-- R2.2: no source
+abbrev pub noHalves : List ℕ
+noHalves = table 32 (λ j. 0)
+
+-- R2.2, R5.3: the destination, where it is a source
+abbrev pub destinationHalves : (ℕ → Bool) → List ℕ → Bool → ℕ → List ℕ
+destinationHalves on vectors accumulates n = cond accumulates (registerHalves on vectors n) noHalves
+
 -- R2.2, R5.3: the first source, or none
 abbrev pub firstHalves : (ℕ → Bool) → List ℕ → Source → List ℕ
-firstHalves on vectors source.None = table 32 (λ j. 0)
+firstHalves on vectors source.None = noHalves
 firstHalves on vectors (source.Register n) = registerHalves on vectors n
 
 -- R5.3: the second source, a register or memory
-abbrev pub secondHalves : (ℕ → Bool) → List ℕ → List ℕ → List ℕ → ℕ → Operand → List ℕ
-secondHalves on vectors memory general next (operand.Register n) = registerHalves on vectors n
-secondHalves on vectors memory general next (operand.Memory a broadcast) = memoryHalves on memory (addressFrom general next a) broadcast
+abbrev pub secondHalves : (ℕ → Bool) → List ℕ → List ℕ → Located → List ℕ
+secondHalves on vectors memory (place.Register n) = registerHalves on vectors n
+secondHalves on vectors memory (place.Words at broadcast) = memoryHalves on memory at broadcast
 
 -- R5.8: of an instruction in a state
 unfoldable pub gathered : List ℕ → State → Instruction → Sources
 gathered memory s i =
     record {
-      destination = registerHalves (on s i) (s .vectors) (i .destination);
+      destination = destinationHalves (on s i) (s .vectors) (i .shape .accumulates) (i .destination);
       first = firstHalves (on s i) (s .vectors) (i .first);
-      second = secondHalves (on s i) (s .vectors) memory (s .general) (nextPointer s i) (i .second);
+      second = secondHalves (on s i) (s .vectors) memory (operandOf s i);
     }
 
--- ---- R2.1, R2.2: a lane, of d in the destination, f in the first source and x in the second
+-- ---- R2.1, R2.2: an operation, of d in the destination, f in the first source and x in the second
 
-unfoldable pub laneOutcome : Operation → Mode → Bool → ℕ → ℕ → ℕ → Outcome
-laneOutcome Add m ue d f x = halfAdd m ue f x
-laneOutcome Multiply m ue d f x = halfMultiply m ue f x
-laneOutcome Subtract m ue d f x = halfSubtract m ue f x
-laneOutcome Divide m ue d f x = halfDivide m ue f x
-laneOutcome SquareRoot m ue d f x = halfRoot m ue x
-laneOutcome Fused132 m ue d f x = halfMultiplyAdd m ue d x f
-laneOutcome Fused213 m ue d f x = halfMultiplyAdd m ue f d x
-laneOutcome Fused231 m ue d f x = halfMultiplyAdd m ue f x d
+-- a half with its flags, as what an element becomes
+abbrev rounded : Outcome → Element
+rounded o = record { value = o .half; flags = o .flags }
+
+-- a line for each operation
+unfoldable pub operated : Operation → Environment → ℕ → ℕ → ℕ → Element
+operated Add e d f x = rounded (halfAdd (e .mode) (e .underflow) f x)
+operated Multiply e d f x = rounded (halfMultiply (e .mode) (e .underflow) f x)
+operated Subtract e d f x = rounded (halfSubtract (e .mode) (e .underflow) f x)
+operated Divide e d f x = rounded (halfDivide (e .mode) (e .underflow) f x)
+operated SquareRoot e d f x = rounded (halfRoot (e .mode) (e .underflow) x)
+operated Fused132 e d f x = rounded (halfMultiplyAdd (e .mode) (e .underflow) d x f)
+operated Fused213 e d f x = rounded (halfMultiplyAdd (e .mode) (e .underflow) f d x)
+operated Fused231 e d f x = rounded (halfMultiplyAdd (e .mode) (e .underflow) f x d)
 
 -- ---- all lanes
 
+-- R2.1: what lane j of the sources becomes
+abbrev pub elementAt : Operation → Environment → Sources → ℕ → Element
+elementAt op e g j = operated op e (getD (g .destination) j 0) (getD (g .first) j 0) (getD (g .second) j 0)
+
 module _ (s : State) (i : Instruction) (g : Sources) where
-  -- R2.1: lane j's half and flags
-  abbrev pub laneOf : ℕ → Outcome
-  laneOf j =
-      laneOutcome (i .operation) (roundingMode (i .rounding) (s .control)) (unmaskedUE (i .rounding) (s .control))
-      (getD (g .destination) j 0) (getD (g .first) j 0) (getD (g .second) j 0)
+  -- R2.1: of the instruction
+  abbrev pub laneOf : ℕ → Element
+  laneOf j = elementAt (i .operation) (environmentOf (i .rounding) (s .control)) g j
 
   -- R5.8: the halves, before one is written
   unfoldable pub results : List ℕ
-  results = lanesOn (on s i) (λ j. laneOf j .half)
+  results = lanesOn (on s i) (λ j. laneOf j .value)
 
   -- R7.1: the flags that the instruction raises
   unfoldable pub raised : ℕ
@@ -122,19 +139,33 @@ module _ (s : State) (i : Instruction) (g : Sources) where
 
 -- ---- R5.9: the destination
 
--- byte q of the destination's register, that was b: its lane's result, or kept, or 0
-abbrev pub newByte : State → Instruction → List ℕ → ℕ → ℕ → ℕ
-newByte s i halves q b =
-    let j = q / 2 in
-    cond (on s i j) (getD halves j 0 / 256 ^ (q % 2) % 256)
-    (cond (ltb j (i .lanes) && not (i .zeroing)) b
-    0)
+-- what becomes of a lane: its result; what the same lane of a register held; 0
+pub data Fill : Type 0 where
+  computed : Fill
+  copied : ℕ → Fill
+  zeroed : Fill
 
-unfoldable pub newRegister : State → Instruction → List ℕ → List ℕ → List ℕ
-newRegister s i halves old = table 64 (λ q. newByte s i halves q (getD old q 0))
+-- of the lanes of an instruction's destination
+unfoldable pub fill : State → Instruction → ℕ → Fill
+fill s i j =
+    cond (on s i j) computed
+    (cond (ltb j (i .elements) && not (i .zeroing)) (copied (i .destination))
+    zeroed)
 
--- the vector file with the destination's 64 bytes anew
+-- byte q of a register that is filled so, from these registers and results
+abbrev pub filled : List ℕ → List ℕ → ℕ → Fill → ℕ
+filled vectors halves q computed = getD halves (q / 2) 0 / 256 ^ (q % 2) % 256
+filled vectors halves q (copied n) = getD vectors (registerAt n + q) 0
+filled vectors halves q zeroed = 0
+
+-- all 64 bytes of it
+unfoldable pub newRegister : (ℕ → Fill) → List ℕ → List ℕ → List ℕ
+newRegister fill vectors halves = table 64 (λ q. filled vectors halves q (fill (q / 2)))
+
+-- the vector file with a register anew
+unfoldable pub vectorsWith : (ℕ → Fill) → List ℕ → ℕ → List ℕ → List ℕ
+vectorsWith fill halves n vectors = paste vectors (registerAt n) (newRegister fill vectors halves) 64
+
+-- and that is the destination
 unfoldable pub vectorsAfter : State → Instruction → List ℕ → List ℕ
-vectorsAfter s i halves =
-    let at = registerAt (i .destination) in
-    paste (s .vectors) at (newRegister s i halves (take 64 (drop at (s .vectors)))) 64
+vectorsAfter s i halves = vectorsWith (fill s i) halves (i .destination) (s .vectors)

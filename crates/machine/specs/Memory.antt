@@ -16,6 +16,8 @@ use Rattle.evex.specs.declared.Operand.the-variants as operand
 use Rattle.evex.specs.declared.Instruction.{Instruction}
 use Rattle.lists.specs.Lists.{some, table}
 use Rattle.machine.specs.State.{State}
+use Rattle.machine.specs.declared.Located.{Located}
+use Rattle.machine.specs.declared.Located.the-variants as place
 
 -- ---- R5.4: addresses, by the general registers and the next instruction's address
 
@@ -36,6 +38,13 @@ indexValue general (index.Scaled n scale) = getD general n 0 * 2 ^ scale
 unfoldable pub addressFrom : List ℕ → ℕ → Address → ℕ
 addressFrom general next a = (baseValue general next (a .base) + indexValue general (a .index) + wrapped (a .displacement)) % 2 ^ 64
 
+-- R5.3, R5.4: where an operand is
+unfoldable pub located : List ℕ → ℕ → Operand → Located
+located general next (operand.Register n) = place.Register n
+located general next (operand.Memory a broadcast) = place.Words (addressFrom general next a) broadcast
+
+-- ---- the words of memory
+
 -- R5.5: where lane j's word begins, by the address of the first; under broadcast all lanes read that one
 abbrev pub wordFrom : ℕ → Bool → ℕ → ℕ
 wordFrom first broadcast j = (first + cond broadcast 0 (2 * j)) % 2 ^ 64
@@ -44,27 +53,39 @@ wordFrom first broadcast j = (first + cond broadcast 0 (2 * j)) % 2 ^ 64
 abbrev pub wordBytes : ℕ → List ℕ
 wordBytes a = a ∷ ((a + 1) % 2 ^ 64) ∷ []
 
--- ---- lanes
+-- R5.2, R5.6: the addresses of the bytes that lane j reads, where it is on
+abbrev pub bytesAt : Located → ℕ → List ℕ
+bytesAt (place.Register n) j = []
+bytesAt (place.Words at broadcast) j = wordBytes (wordFrom at broadcast j)
 
--- R5.1: lane j is on, of so many lanes, under mask aaa
+-- R5.7: one of those that the lanes that are on need lies outside a memory of this length (R1.8)
+unfoldable pub outside : (ℕ → Bool) → ℕ → Located → Bool
+outside on memoryLength operand = some (λ j. on j && some (λ a. leb memoryLength a) (bytesAt operand j)) (table 32 (λ j. j))
+
+-- ---- elements
+
+-- R5.1: element e is on, of so many, under mask aaa
 abbrev pub isOn : List ℕ → ℕ → ℕ → ℕ → Bool
-isOn masks aaa lanes j = ltb j lanes && (eqb aaa 0 || isSet (getD masks aaa 0) j)
+isOn masks aaa elements e = ltb e elements && (eqb aaa 0 || isSet (getD masks aaa 0) e)
 
 -- ---- of an instruction in a state
 module _ (s : State) (i : Instruction) where
-  -- R5.1: the instruction switches on lane j
+  -- R5.1: its element e is on. An element is a lane, which the instruction then switches on.
   unfoldable pub on : ℕ → Bool
-  on j = isOn (s .masks) (i .mask) (i .lanes) j
+  on e = isOn (s .masks) (i .mask) (i .elements) e
 
   -- R1.7, R4.15, R5.4: the address of the next instruction
   abbrev pub nextPointer : ℕ
   nextPointer = (s .pointer + i .size) % 2 ^ 64
 
-  -- R5.2, R5.6: the addresses of the memory bytes that lane j reads, where it is on
-  unfoldable pub bytesRead : Operand → ℕ → List ℕ
-  bytesRead (operand.Register n) j = []
-  bytesRead (operand.Memory a broadcast) j = wordBytes (wordFrom (addressFrom (s .general) nextPointer a) broadcast j)
+  -- R5.3, R5.4: where its second source is
+  abbrev pub operandOf : Located
+  operandOf = located (s .general) nextPointer (i .second)
 
-  -- R5.7: one of the bytes that are needed lies outside a memory of this length (R1.8)
+  -- R5.2, R5.6: the addresses of the memory bytes that lane j reads of an operand, where it is on
+  abbrev pub bytesRead : Operand → ℕ → List ℕ
+  bytesRead operand j = bytesAt (located (s .general) nextPointer operand) j
+
+  -- R5.7: one of the bytes that are needed lies outside a memory of this length
   unfoldable pub needsOutside : ℕ → Bool
-  needsOutside memoryLength = some (λ j. on j && some (λ a. leb memoryLength a) (bytesRead (i .second) j)) (table 32 (λ j. j))
+  needsOutside memoryLength = outside on memoryLength operandOf
