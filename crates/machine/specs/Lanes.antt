@@ -96,7 +96,7 @@ gathered memory s i =
 -- ---- R2.1, R2.2: an operation, of d in the destination, f in the first source and x in the second
 
 -- a half with its flags, as what an element becomes
-abbrev rounded : Outcome → Element
+abbrev pub rounded : Outcome → Element
 rounded o = record { value = o .half; flags = o .flags }
 
 -- a line for each operation

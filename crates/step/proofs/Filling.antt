@@ -1,14 +1,14 @@
--- Loops over the indices 0, 1, .., one at each turn: what stands in a list, in or-ed flags or in a test after j turns. The list is a table
--- at the end.
+-- Loops over the indices 0, 1, .., one at each turn: what stands in a list, in or-ed flags or in a test after j turns. A loop may end early,
+-- where nothing is left to do; the list is a table then.
 -- Assumes nothing.
-use Prim.Native.Nat.{ℕ, _+_, _<_, _≤_}
-use mathlib.Core.Path.{_≡_, refl, sym, ap, _∙_}
-use mathlib.Core.Bool.{Bool, true, false, _||_, true≢false}
-use mathlib.Core.List.{List}
-use native.Mathlib.Decide.{decLt}
-use native.Mathlib.Nat.{le-antisymm}
+use Prim.Native.Nat.{ℕ, suc, _+_, _<_, _≤_}
+use mathlib.Core.Path.{_≡_, refl, sym, _∙_}
+use mathlib.Core.Bool.{Bool, true, false, _||_, _&&_, true≢false, or-false, and-false}
+use mathlib.Core.List.{List, [], _∷_}
+use native.Mathlib.Decide.{decLt, le-ind}
+use native.Mathlib.Numerals.{add-one}
 use native.Mathlib.Omega.{arith}
-use lib.Bits.{bitOr}
+use lib.Bits.{bitOr, or-zero-r}
 use lib.ListN.{length, getD, set, length-set}
 use lib.Seq.{getD-set-same, getD-set-other}
 use Rattle.lists.specs.Lists.{some, orAll, table}
@@ -56,8 +56,16 @@ module _ {f : ℕ → ℕ} {n : ℕ} {d l : List ℕ} {j : ℕ} (F : Filled f n 
             | no y ↦ let q : k ≡ j = omega arith in rw q (F .left j (omega arith) ∙ e)
           ]
 
-  pub all : n ≤ j → l ≡ table n f
-  all h = is-table n f 0 l (F .size) (λ k m. F .filled k (omega arith))
+  -- where the loop ends, all is f's if d's own is from there on
+  pub all : ((k : ℕ) → j ≤ k → k < n → getD d k 0 ≡ f k) → l ≡ table n f
+  all rest = is-table n f 0 l (F .size) at-each
+    where
+      at-each : (k : ℕ) → k < n → getD l k 0 ≡ f k
+      at-each k m =
+          elim (decLt k j) [
+            | yes y ↦ F .filled k y
+            | no y ↦ let g : j ≤ k = omega arith in F .left k g ∙ rest k g m
+          ]
 
 -- the flags of the indices passed, or-ed
 pub record Ored (f : ℕ → ℕ) (x j : ℕ) : Type 0 where
@@ -71,8 +79,11 @@ module _ {f : ℕ → ℕ} {x j : ℕ} (O : Ored f x j) where
   pub or-more : {v : ℕ} → v ≡ f j → Ored f (bitOr x v) (j + 1)
   or-more e = record { is = rw (O .is, e) (sym (or-next j f)) }
 
-  pub or-all : {n : ℕ} → j ≤ n → n ≤ j → x ≡ orAll (table n f)
-  or-all h k = O .is ∙ ap (λ (i : ℕ). orAll (table i f)) (le-antisymm h k)
+  pub or-all : {n : ℕ} → j ≤ n → ((k : ℕ) → j ≤ k → f k ≡ 0) → x ≡ orAll (table n f)
+  or-all {n} h rest = O .is ∙ sym (le-ind (λ (i : ℕ). orAll (table i f) ≡ orAll (table j f)) refl next n h)
+    where
+      next : (i : ℕ) → j ≤ i → orAll (table i f) ≡ orAll (table j f) → orAll (table (suc i) f) ≡ orAll (table j f)
+      next i k e = rw (← add-one i, or-next i f, rest i k, or-zero-r (orAll (table i f))) e
 
 -- whether a test held of some index passed
 pub record Found (n : ℕ) (p : ℕ → Bool) (x : Bool) (j : ℕ) : Type 0 where
@@ -87,8 +98,17 @@ module _ {n : ℕ} {p : ℕ → Bool} {x : Bool} {j : ℕ} (F : Found n p x j) w
   pub found-more : {v : Bool} → j < n → v ≡ p j → Found n p (x || v) (j + 1)
   found-more h e = record { within = omega arith; is = rw (F .is, e) (sym (some-next p j (λ k. k))) }
 
-  pub found-all : n ≤ j → x ≡ some p (table n (λ k. k))
-  found-all h = F .is ∙ ap (λ (i : ℕ). some p (table i (λ k. k))) (le-antisymm (F .within) h)
+  pub found-all : ((k : ℕ) → j ≤ k → p k ≡ false) → x ≡ some p (table n (λ k. k))
+  found-all rest = F .is ∙ sym (le-ind (λ (i : ℕ). some p (table i (λ k. k)) ≡ some p (table j (λ k. k))) refl next n (F .within))
+    where
+      next : (i : ℕ) → j ≤ i → some p (table i (λ k. k)) ≡ some p (table j (λ k. k))
+          → some p (table (suc i) (λ k. k)) ≡ some p (table j (λ k. k))
+      next i k e = rw (← add-one i, some-next p i (λ k. k), rest i k, or-false (some p (table i (λ k. k)))) e
+
+-- where a test is put to no index, none is found
+pub nowhere-off : (p : ℕ → Bool) (l : List ℕ) → some (λ j. p j && false) l ≡ false
+nowhere-off p [] = refl
+nowhere-off p (j ∷ l) = rw (and-false (p j)) (nowhere-off p l)
 
 -- where none was found, the test held of no index
 pub nowhere : (p : ℕ → Bool) (n j : ℕ) → some p (table n (λ k. k)) ≡ false → j < n → p j ≡ false

@@ -2,72 +2,98 @@
 -- Assumes nothing.
 use Prim.Native.Nat.{ℕ, _/_, _%_, _^_, _<_}
 use mathlib.Core.Path.{_≡_, refl, sym, ap, _∙_}
-use mathlib.Core.Bool.{Bool, true, false, cond, not, _&&_, and-false}
-use mathlib.Core.List.{List, [], _∷_}
+use mathlib.Core.Bool.{Bool, true, false, cond, not, _&&_}
+use mathlib.Core.List.{List}
 use native.Mathlib.Nat.{zero-div}
 use native.Mathlib.Omega.{arith}
-use lib.Dec.{leb, ltb, eqb}
+use lib.Dec.{ltb, eqb}
 use lib.Bits.{bitAnd}
 use lib.ListN.{length, getD}
 use lib.Seq.{paste}
-use Rattle.evex.specs.declared.Operand.{Operand}
-use Rattle.evex.specs.declared.Operand.the-variants as operand
+use Rattle.evex.specs.declared.Operation.{Operation}
+use Rattle.evex.specs.declared.Source.{Source}
+use Rattle.evex.specs.declared.Source.the-variants as source
 use Rattle.evex.specs.declared.Instruction.{Instruction}
 use Rattle.evex.specs.declared.Decoded.the-variants.{Fields}
 use Rattle.evex.specs.Decode.{decoded}
-use Rattle.lists.specs.Lists.{some, table}
+use Rattle.lists.specs.Lists.{orAll, table}
+use Rattle.lists.proofs.Tests.{either-equal}
 use Rattle.lists.proofs.Tables.{table-equal, getD-table}
+use Rattle.machine.specs.declared.Located.{Located}
+use Rattle.machine.specs.declared.Located.the-variants as place
+use Rattle.machine.specs.declared.Environment.{Environment}
+use Rattle.machine.specs.declared.Element.{Element}
 use Rattle.machine.specs.State.{State, Stepped, registerAt, steppedOf}
-use Rattle.machine.specs.Memory.{isOn, on, nextPointer, bytesRead, needsOutside}
-use Rattle.machine.specs.Lanes.{Sources, roundingMode, unmasked, unmaskedUE, recorded, gathered, registerHalves, firstHalves, secondHalves}
-use Rattle.machine.specs.Lanes.{results, raised, raisesUnmasked, controlAfter, newRegister, vectorsAfter}
+use Rattle.machine.specs.Memory.{isOn, on, nextPointer, located, outside, operandOf, needsOutside}
+use Rattle.machine.specs.Lanes.{Sources, unmasked, environmentOf, recorded, lanesOn, registerHalves, noHalves, destinationHalves, firstHalves}
+use Rattle.machine.specs.Lanes.{secondHalves, gathered, elementAt, results, raised, raisesUnmasked, controlAfter, computed, copied, zeroed}
+use Rattle.machine.specs.Lanes.{fill, filled, newRegister, vectorsWith, vectorsAfter}
 use Rattle.machine.specs.Step.{refused, stopped, completed, step}
 use Rattle.machine.proofs.Ends.{refuses-memory, stops, completes}
 use Rattle.step.specs.declared.lanes.Results.{Results}
-use Rattle.step.specs.Work.{keptBy, wordsOutside, outside, resultsWhere, storedBytes, storedFile, Left, leftOf, finished, executed}
+use Rattle.step.specs.Work.{everyLane, keptBy, secondGathered, resultsWhere, keptOr, Left, leftOf, finished, executed}
 
--- ---- 7
+-- ---- sources: what a lane that is off has does not count
 
-nowhere-off : (p : ℕ → Bool) (l : List ℕ) → some (λ j. p j && false) l ≡ false
-nowhere-off p [] = refl
-nowhere-off p (j ∷ l) = rw (and-false (p j)) (nowhere-off p l)
+module _ (p : ℕ → Bool) where
+  abbrev AgreeOn : List ℕ → List ℕ → Type 0
+  AgreeOn l m = (j : ℕ) → j < 32 → p j ≡ true → getD l j 0 ≡ getD m j 0
 
-outside-by : (s : State) (i : Instruction) (length : ℕ) (o : Operand)
-    → outside (on s i) length (s .general) (nextPointer s i) o ≡ some (λ j. on s i j && some (λ a. leb length a) (bytesRead s i o j))
-    (table 32 (λ j. j))
-unfolding bytesRead wordsOutside
-outside-by s i length (operand.Register r) = sym (nowhere-off (on s i) (table 32 (λ j. j)))
-outside-by s i length (operand.Memory a broadcast) = refl
+  register-agrees : (vectors : List ℕ) (n : ℕ) → AgreeOn (registerHalves everyLane vectors n) (registerHalves p vectors n)
+  unfolding registerHalves
+  register-agrees vectors n j h t = getD-table 32 _ j 0 h ∙ sym (getD-table 32 _ j 0 h ∙ rw t)
+
+  destination-agrees : (vectors : List ℕ) (t : Bool) (n : ℕ)
+      → AgreeOn (destinationHalves everyLane vectors t n) (destinationHalves p vectors t n)
+  destination-agrees vectors true n = register-agrees vectors n
+  destination-agrees vectors false n = λ j h t. refl
+
+  first-agrees : (vectors : List ℕ) (x : Source) → AgreeOn (firstHalves everyLane vectors x) (firstHalves p vectors x)
+  first-agrees vectors source.None = λ j h t. refl
+  first-agrees vectors (source.Register n) = register-agrees vectors n
+
+  second-agrees : (vectors memory : List ℕ) (x : Located) → AgreeOn (secondGathered p vectors memory x) (secondHalves p vectors memory x)
+  second-agrees vectors memory (place.Register n) = register-agrees vectors n
+  second-agrees vectors memory (place.Words at broadcast) = λ j h t. refl
+
+  module _ (op : Operation) (e : Environment) (g h : Sources) (d : AgreeOn (g .destination) (h .destination))
+      (f : AgreeOn (g .first) (h .first)) (x : AgreeOn (g .second) (h .second)) where
+    lanes-equal : (of : Element → ℕ) → lanesOn p (λ j. of (elementAt op e g j)) ≡ lanesOn p (λ j. of (elementAt op e h j))
+    lanes-equal of = table-equal 32 (λ j k. either-equal 0 (p j) (λ t. rw (d j k t, f j k t, x j k t)))
+
+    results-equal : resultsWhere p op e g ≡ resultsWhere p op e h
+    unfolding resultsWhere
+    results-equal = λ i.
+        record { halves = lanes-equal (λ (r : Element). r .value) i; flags = ap orAll (lanes-equal (λ (r : Element). r .flags)) i }
 
 -- ---- lanes, and the destination: a result is 0 where its lane is off
 
 module _ (s : State) (i : Instruction) (g : Sources) where
-  results-is :
-      resultsWhere (on s i) (i .operation) (roundingMode (i .rounding) (s .control)) (unmaskedUE (i .rounding) (s .control))
-      (g .destination) (g .first) (g .second)
+  results-are :
+      resultsWhere (on s i) (i .operation) (environmentOf (i .rounding) (s .control)) g
       ≡ record { halves = results s i g; flags = raised s i g }
   unfolding resultsWhere results raised
-  results-is = refl
+  results-are = refl
 
   off : (j : ℕ) → j < 32 → on s i j ≡ false → getD (results s i g) j 0 ≡ 0
   unfolding results
   off j h e = getD-table 32 _ j 0 h ∙ rw e
 
-  byte-by : (t u : Bool) (b h k : ℕ) → (t ≡ false → h ≡ 0)
-      → cond (not t && u) b (h / 256 ^ k % 256) ≡ cond t (h / 256 ^ k % 256) (cond u b 0)
-  byte-by true u b h k z = refl
-  byte-by false true b h k z = refl
-  byte-by false false b h k z = rw (z refl, zero-div (256 ^ k))
+  filled-by : (q : ℕ) (t u : Bool) → (t ≡ false → getD (results s i g) (q / 2) 0 ≡ 0)
+      → filled (s .vectors) (results s i g) q (cond (not t && u) (copied (i .destination)) computed)
+      ≡ filled (s .vectors) (results s i g) q (cond t computed (cond u (copied (i .destination)) zeroed))
+  filled-by q true u z = refl
+  filled-by q false true z = refl
+  filled-by q false false z = rw (z refl, zero-div (256 ^ (q % 2)))
 
-  stored-is : storedFile (keptBy (on s i) (i .lanes) (i .zeroing)) (results s i g) (i .destination) (s .vectors)
+  stored-is :
+      vectorsWith (keptOr (keptBy (on s i) (i .elements) (i .zeroing)) (i .destination)) (results s i g) (i .destination) (s .vectors)
       ≡ vectorsAfter s i (results s i g)
-  unfolding storedFile storedBytes vectorsAfter newRegister
+  unfolding vectorsWith vectorsAfter newRegister fill
   stored-is =
       ap (λ (bytes : List ℕ). paste (s .vectors) (registerAt (i .destination)) bytes 64)
       (table-equal 64
-      (λ q h.
-      byte-by (on s i (q / 2)) (ltb (q / 2) (i .lanes) && not (i .zeroing)) _ (getD (results s i g) (q / 2) 0) (q % 2)
-      (off (q / 2) (omega arith))))
+      (λ q h. filled-by q (on s i (q / 2)) (ltb (q / 2) (i .elements) && not (i .zeroing)) (off (q / 2) (omega arith))))
 
 -- ---- the whole, from what the parts give
 
@@ -79,29 +105,38 @@ either : (s : State) (t : Bool) (x y : Left) → joined s (cond t x y) ≡ cond 
 either s true x y = refl
 either s false x y = refl
 
-module _ (memory : List ℕ) (s : State) (i : Instruction) (p : ℕ → Bool) (e : p ≡ isOn (s .masks) (i .mask) (i .lanes))
-    (next : ℕ) (n : next ≡ nextPointer s i) where
+module _ (memory : List ℕ) (s : State) (i : Instruction) (p : ℕ → Bool) (e : p ≡ isOn (s .masks) (i .mask) (i .elements))
+    (next : ℕ) (n : next ≡ nextPointer s i) (second : Located) (at : second ≡ located (s .general) next (i .second)) where
   lanes-are : p ≡ on s i
   unfolding on
   lanes-are = e
 
-  outside-is : outside p (length memory) (s .general) next (i .second) ≡ needsOutside s i (length memory)
-  unfolding needsOutside
-  outside-is = rw (lanes-are, n) (outside-by s i (length memory) (i .second))
+  second-is : second ≡ operandOf s i
+  second-is = rw n at at
 
-  pub refuses : outside p (length memory) (s .general) next (i .second) ≡ true → refused 7 s ≡ executed memory s i
+  outside-is : outside p (length memory) second ≡ needsOutside s i (length memory)
+  unfolding needsOutside
+  outside-is = rw (lanes-are, second-is)
+
+  pub refuses : outside p (length memory) second ≡ true → refused 7 s ≡ executed memory s i
   unfolding executed
   refuses t = rw (← outside-is, t)
 
-  module _ (inside : outside p (length memory) (s .general) next (i .second) ≡ false) (r : Results)
-      (computed : r ≡ resultsWhere p (i .operation) (roundingMode (i .rounding) (s .control)) (unmaskedUE (i .rounding) (s .control))
-      (registerHalves p (s .vectors) (i .destination)) (firstHalves p (s .vectors) (i .first))
-      (secondHalves p (s .vectors) memory (s .general) next (i .second))) where
+  module _ (inside : outside p (length memory) second ≡ false) (r : Results)
+      (by : r ≡ resultsWhere p (i .operation) (environmentOf (i .rounding) (s .control))
+      (record {
+        destination = destinationHalves everyLane (s .vectors) (i .shape .accumulates) (i .destination);
+        first = firstHalves everyLane (s .vectors) (i .first);
+        second = secondGathered p (s .vectors) memory second;
+      })) where
     computed-is : r ≡ record { halves = results s i (gathered memory s i); flags = raised s i (gathered memory s i) }
     unfolding gathered
     computed-is =
-        rw (computed, lanes-are, n)
-        (results-is s i (gathered memory s i))
+        rw (by, second-is, lanes-are)
+        (results-equal (on s i) (i .operation) (environmentOf (i .rounding) (s .control)) _ (gathered memory s i)
+        (destination-agrees (on s i) (s .vectors) (i .shape .accumulates) (i .destination)) (first-agrees (on s i) (s .vectors) (i .first))
+        (second-agrees (on s i) (s .vectors) memory (operandOf s i))
+        ∙ results-are s i (gathered memory s i))
 
     pub finishes : {l : Left} → l ≡ finished p i r next (s .vectors) (s .control) (s .pointer) → joined s l ≡ executed memory s i
     unfolding executed finished raisesUnmasked stopped completed controlAfter

@@ -65,6 +65,24 @@ ones-bit n j =
           rw (le-ltb j n k, e)
     ]
 
+-- a number below 2 ^ n has none from n on
+pub bit-above : (x n j : ℕ) → x < 2 ^ n → n ≤ j → isSet x j ≡ false
+bit-above x n j h l =
+    let e : x / 2 ^ j ≡ 0 = div-eq-of-lt (lt-of-lt-of-le h (pow-mono l)) in
+    rw e
+
+-- nor has 0
+pub no-bit : (j : ℕ) → isSet 0 j ≡ false
+no-bit j = rw (zero-div (2 ^ j))
+
+-- below n, one that the others lack
+pub flipped-bit : (x n j : ℕ) → j < n → isSet (bitXor x (2 ^ n - 1)) j ≡ not (isSet x j)
+flipped-bit x n j h = xor-bit x (2 ^ n - 1) j ∙ rw (ones-bit n j, lt-ltb j n h) (go (isSet x j))
+  where
+    go : (t : Bool) → differs t true ≡ not t
+    go true = refl
+    go false = refl
+
 -- ---- the sets of the code
 
 same-sets : {f g : ℕ → Bool} → ((j : ℕ) → f j ≡ g j) → f ≡ g
@@ -82,9 +100,6 @@ on-some masks mask lanes n =
     (and-comm (isSet (getD masks mask 0) j) (ltb j lanes)))
 
 -- no lane with zeroing, or else those below the number of lanes that are off
-no-bit : (j : ℕ) → isSet 0 j ≡ false
-no-bit j = rw (zero-div (2 ^ j))
-
 and-false : (a b : Bool) → false ≡ (a && (b && false))
 and-false true true = refl
 and-false true false = refl
@@ -93,11 +108,11 @@ and-false false b = refl
 pub kept-none : (on lanes : ℕ) → isSet 0 ≡ keptBy (isSet on) lanes true
 kept-none on lanes = same-sets (λ j. no-bit j ∙ and-false (not (isSet on j)) (ltb j lanes))
 
-off-below : (t : Bool) (j lanes : ℕ) → lanes ≤ 64 → (differs t (ltb j 64) && ltb j lanes) ≡ (not t && (ltb j lanes && true))
+off-below : (t : Bool) (j lanes : ℕ) → lanes ≤ 32 → (differs t (ltb j 32) && ltb j lanes) ≡ (not t && (ltb j lanes && true))
 off-below t j lanes h =
     elim (decLt j lanes) [
-      | yes l ↦ rw (lt-ltb j lanes l, lt-ltb j 64 (omega arith)) (go t)
-      | no l ↦ rw (le-ltb j lanes (omega arith)) (gone t (ltb j 64))
+      | yes l ↦ rw (lt-ltb j lanes l, lt-ltb j 32 (omega arith)) (go t)
+      | no l ↦ rw (le-ltb j lanes (omega arith)) (gone t (ltb j 32))
     ]
   where
     go : (t : Bool) → (differs t true && true) ≡ (not t && true)
@@ -110,9 +125,9 @@ off-below t j lanes h =
     gone false true = refl
     gone false false = refl
 
-pub kept-some : (on lanes : ℕ) → lanes ≤ 32 → isSet (bitAnd (bitXor on (2 ^ 64 - 1)) (2 ^ lanes - 1)) ≡ keptBy (isSet on) lanes false
+pub kept-some : (on lanes : ℕ) → lanes ≤ 32 → isSet (bitAnd (bitXor on (2 ^ 32 - 1)) (2 ^ lanes - 1)) ≡ keptBy (isSet on) lanes false
 kept-some on lanes h =
     same-sets
     (λ j.
-    rw (and-bit (bitXor on (2 ^ 64 - 1)) (2 ^ lanes - 1) j, xor-bit on (2 ^ 64 - 1) j, ones-bit 64 j, ones-bit lanes j)
-    (off-below (isSet on j) j lanes (omega arith)))
+    rw (and-bit (bitXor on (2 ^ 32 - 1)) (2 ^ lanes - 1) j, xor-bit on (2 ^ 32 - 1) j, ones-bit 32 j, ones-bit lanes j)
+    (off-below (isSet on j) j lanes h))

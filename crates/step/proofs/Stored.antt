@@ -1,49 +1,101 @@
 -- A turn of the loop that stores lanes: a lane that is kept is left in place, and the two bytes of any other are stored.
 -- Assumes nothing.
-use Prim.Native.Nat.{ℕ, _+_, _*_, _/_, _%_, _<_}
-use mathlib.Core.Path.{_≡_, refl, sym}
-use mathlib.Core.Bool.{Bool, true, false, cond}
+use Prim.Native.Nat.{ℕ, _+_, _-_, _*_, _/_, _%_, _^_, _<_, _≤_}
+use mathlib.Core.Path.{_≡_, refl, sym, ap, _∙_}
+use mathlib.Core.Bool.{Bool, true, false, cond, not}
 use mathlib.Core.List.{List, _++_}
 use native.Mathlib.Nat.{div-one}
 use native.Mathlib.Omega.{arith}
-use lib.ListN.{getD, set, take, drop}
+use borrow.Author.Tests.{not-false}
+use lib.Bits.{bitXor}
+use lib.ListN.{length, getD, set, take, drop}
 use lib.Seq.{drop-drop}
-use Rattle.lists.proofs.Tables.{length-table, paste-whole}
-use Rattle.step.specs.Work.{byteWhere, storedBytes, storedFile}
+use Rattle.lists.proofs.Tests.{either-equal}
+use Rattle.lists.proofs.Tables.{length-table, table-equal, part-at, paste-whole}
+use Rattle.evex.specs.Bits.{isSet}
+use Rattle.machine.specs.State.{registerAt}
+use Rattle.machine.specs.Lanes.{computed, copied, filled, newRegister, vectorsWith}
+use Rattle.step.specs.Work.{keptOr}
 use Rattle.step.proofs.Filling.{Filled, more, same}
+use Rattle.step.proofs.Sets.{bit-above, flipped-bit}
 
-module _ (kept : ℕ → Bool) (halves d : List ℕ) (j : ℕ) where
-  even : byteWhere kept halves d (2 * j) ≡ cond (kept j) (getD d (2 * j) 0) (getD halves j 0 % 256)
-  even =
-      let half : 2 * j / 2 ≡ j = omega arith in
-      let rest : 2 * j % 2 ≡ 0 = omega arith in
-      rw (half, rest, div-one)
+-- byte q of register n
+abbrev pub byteOf : (ℕ → Bool) → List ℕ → ℕ → List ℕ → ℕ → ℕ
+byteOf kept halves n file q = filled file halves q (keptOr kept n (q / 2))
 
-  odd : byteWhere kept halves d (2 * j + 1) ≡ cond (kept j) (getD d (2 * j + 1) 0) (getD halves j 0 / 256 % 256)
-  odd =
-      let half : (2 * j + 1) / 2 ≡ j = omega arith in
-      let rest : (2 * j + 1) % 2 ≡ 1 = omega arith in
-      rw (half, rest)
-
-  pub next : {l m : List ℕ} → Filled (byteWhere kept halves d) 64 d l (2 * j) → j < 32
-      → m ≡ cond (kept j) l (set (set l (2 * j) (getD halves j 0 % 256)) (2 * j + 1) (getD halves j 0 / 256 % 256))
-      → Filled (byteWhere kept halves d) 64 d m (2 * (j + 1))
-  next {l} {m} F h e =
-      let twice : 2 * (j + 1) ≡ 2 * j + 1 + 1 = omega arith in
-      rw (twice, e) (go (kept j) refl)
+module _ (kept : ℕ → Bool) (halves : List ℕ) where
+  byte-of : (n : ℕ) (file : List ℕ) (q : ℕ)
+      → byteOf kept halves n file q ≡ cond (kept (q / 2)) (getD file (registerAt n + q) 0) (getD halves (q / 2) 0 / 256 ^ (q % 2) % 256)
+  byte-of n file q = go (kept (q / 2))
     where
-      go : (t : Bool) → kept j ≡ t
-          → Filled (byteWhere kept halves d) 64 d (cond t l
-          (set (set l (2 * j) (getD halves j 0 % 256)) (2 * j + 1) (getD halves j 0 / 256 % 256))) (2 * j + 1 + 1)
-      go true k = same (same F (omega arith) (sym (rw k at even))) (omega arith) (sym (rw k at odd))
-      go false k = more (more F (omega arith) (sym (rw k at even))) (omega arith) (sym (rw k at odd))
+      go : (t : Bool)
+          → filled file halves q (cond t (copied n) computed) ≡ cond t (getD file (registerAt n + q) 0)
+          (getD halves (q / 2) 0 / 256 ^ (q % 2) % 256)
+      go true = refl
+      go false = refl
 
--- the register's bytes in the place of the old ones
-pub pasted : (kept : ℕ → Bool) (halves file : List ℕ) (n : ℕ)
-    → take (n * 64) file ++ (storedBytes kept halves (take 64 (drop (n * 64) file)) ++ drop 64 (drop (n * 64) file)) ≡ storedFile kept
-    halves n file
-unfolding storedFile storedBytes
-pasted kept halves file n =
-    let old = take 64 (drop (n * 64) file) in
-    rw (drop-drop 64 (n * 64) file) (sym (paste-whole file (n * 64) (storedBytes kept halves old) 64
-    (length-table 64 (byteWhere kept halves old))))
+  -- ---- a register by itself, as a file's first
+
+  own : (q : ℕ) → registerAt 0 + q ≡ q
+  own q = omega arith
+
+  module _ (d : List ℕ) (j : ℕ) where
+    even : byteOf kept halves 0 d (2 * j) ≡ cond (kept j) (getD d (2 * j) 0) (getD halves j 0 % 256)
+    even =
+        let half : 2 * j / 2 ≡ j = omega arith in
+        let rest : 2 * j % 2 ≡ 0 = omega arith in
+        byte-of 0 d (2 * j) ∙ rw (own (2 * j), half, rest, div-one)
+
+    odd : byteOf kept halves 0 d (2 * j + 1) ≡ cond (kept j) (getD d (2 * j + 1) 0) (getD halves j 0 / 256 % 256)
+    odd =
+        let half : (2 * j + 1) / 2 ≡ j = omega arith in
+        let rest : (2 * j + 1) % 2 ≡ 1 = omega arith in
+        byte-of 0 d (2 * j + 1) ∙ rw (own (2 * j + 1), half, rest)
+
+    pub next : {l m : List ℕ} → Filled (byteOf kept halves 0 d) 64 d l (2 * j) → j < 32
+        → m ≡ cond (kept j) l (set (set l (2 * j) (getD halves j 0 % 256)) (2 * j + 1) (getD halves j 0 / 256 % 256))
+        → Filled (byteOf kept halves 0 d) 64 d m (2 * (j + 1))
+    next {l} {m} F h e =
+        let twice : 2 * (j + 1) ≡ 2 * j + 1 + 1 = omega arith in
+        rw (twice, e) (go (kept j) refl)
+      where
+        go : (t : Bool) → kept j ≡ t
+            → Filled (byteOf kept halves 0 d) 64 d (cond t l
+            (set (set l (2 * j) (getD halves j 0 % 256)) (2 * j + 1) (getD halves j 0 / 256 % 256))) (2 * j + 1 + 1)
+        go true k = same (same F (omega arith) (sym (rw k at even))) (omega arith) (sym (rw k at odd))
+        go false k = more (more F (omega arith) (sym (rw k at even))) (omega arith) (sym (rw k at odd))
+
+  left : (d : List ℕ) (k : ℕ) → kept (k / 2) ≡ true → getD d k 0 ≡ byteOf kept halves 0 d k
+  left d k t = sym (byte-of 0 d k ∙ rw (own k, t))
+
+  -- ---- as a part of the file
+
+  part : (file : List ℕ) (n : ℕ)
+      → newRegister (keptOr kept 0) (take 64 (drop (n * 64) file)) halves ≡ newRegister (keptOr kept n) file halves
+  unfolding newRegister
+  part file n =
+      table-equal 64
+      (λ q h.
+      byte-of 0 (take 64 (drop (n * 64) file)) q
+      ∙ either-equal (getD halves (q / 2) 0 / 256 ^ (q % 2) % 256) (kept (q / 2)) (λ _. rw (own q) (part-at file (n * 64) 64 q 0 h))
+      ∙ sym (byte-of n file q))
+
+  new-length : (how : List ℕ) (n : ℕ) → length (newRegister (keptOr kept n) how halves) ≡ 64
+  unfolding newRegister
+  new-length how n = length-table 64 _
+
+  -- the register's bytes in the place of the old ones
+  pub pasted : (file : List ℕ) (n : ℕ)
+      → take (n * 64) file ++ (newRegister (keptOr kept 0) (take 64 (drop (n * 64) file)) halves ++ drop 64 (drop (n * 64) file))
+      ≡ vectorsWith (keptOr kept n) halves n file
+  unfolding vectorsWith
+  pasted file n =
+      rw (drop-drop 64 (n * 64) file, part file n)
+      (sym (paste-whole file (n * 64) (newRegister (keptOr kept n) file halves) 64 (new-length file n)))
+
+-- from the last lane that is not kept on all are
+pub rest-left : (kept end : ℕ) (halves d : List ℕ) → bitXor kept (2 ^ 32 - 1) < 2 ^ end
+    → (k : ℕ) → 2 * end ≤ k → k < 64 → getD d k 0 ≡ byteOf (isSet kept) halves 0 d k
+rest-left kept end halves d h k l m =
+    left (isSet kept) halves d k
+    (not-false _ (sym (flipped-bit kept 32 (k / 2) (omega arith)) ∙ bit-above (bitXor kept (2 ^ 32 - 1)) end (k / 2) h (omega arith)))

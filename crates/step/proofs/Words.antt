@@ -7,8 +7,8 @@ use native.Mathlib.Omega.{arith}
 use borrow.Author.Tests.{leb-false}
 use lib.Dec.{leb}
 use Rattle.lists.specs.Lists.{some}
-use Rattle.machine.specs.Memory.{wordFrom, wordBytes}
-use Rattle.step.specs.Work.{wordsOutside}
+use Rattle.machine.specs.Memory.{wordFrom, wordBytes, outside}
+use Rattle.machine.specs.declared.Located.the-variants.{Words}
 use Rattle.step.proofs.Filling.{nowhere}
 
 neither : (a b : Bool) → (a || b) ≡ false → (a ≡ false) × (b ≡ false)
@@ -27,8 +27,8 @@ word-inside length w h e =
     record { below = omega arith; plain = omega arith }
 
 pub inside : (on : ℕ → Bool) (length at : ℕ) (broadcast : Bool) (j : ℕ) → length < 2 ^ 64
-    → wordsOutside on length at broadcast ≡ false → j < 32 → on j ≡ true → Inside length (wordFrom at broadcast j)
-unfolding wordsOutside
+    → outside on length (Words at broadcast) ≡ false → j < 32 → on j ≡ true → Inside length (wordFrom at broadcast j)
+unfolding outside
 inside on length at broadcast j l e h t =
     word-inside length (wordFrom at broadcast j) l
     (rw t at (nowhere (λ k. on k && some (λ a. leb length a) (wordBytes (wordFrom at broadcast k))) 32 j e h))

@@ -1,76 +1,68 @@
 -- What the parts of a step compute, over the numbers that they are given. No clause: used by the code, nothing to believe. The laws of
 -- proofs/Meaning.antt tie each to the definition of the machine that it serves.
-use Prim.Native.Nat.{ℕ, _/_, _%_, _^_}
-use mathlib.Core.Bool.{Bool, false, cond, not, _&&_}
+use Prim.Native.Nat.{ℕ, _<_}
+use mathlib.Core.Bool.{Bool, true, cond, not, _&&_}
 use mathlib.Core.List.{List}
 use lib.Bits.{bitAnd}
-use lib.Dec.{eqb, ltb, leb}
-use lib.ListN.{length, getD, take, drop}
-use lib.Seq.{paste}
-use Rattle.half.specs.declared.Mode.{Mode}
-use Rattle.half.specs.declared.Outcome.{Outcome}
+use lib.Dec.{eqb, ltb}
+use lib.ListN.{length}
+use Rattle.lists.specs.Lists.{orAll}
 use Rattle.evex.specs.Decode.{numberOf}
 use Rattle.evex.specs.declared.Operation.{Operation}
-use Rattle.evex.specs.declared.Operand.{Operand}
-use Rattle.evex.specs.declared.Operand.the-variants as operand
 use Rattle.evex.specs.declared.Instruction.{Instruction}
 use Rattle.evex.specs.declared.Decoded.{Decoded}
 use Rattle.evex.specs.declared.Decoded.the-variants.{Fields, Refused}
 use Rattle.machine.specs.declared.Answer.{Answer}
-use Rattle.lists.specs.Lists.{some, orAll, table}
-use Rattle.machine.specs.State.{State, Stepped, registerAt}
-use Rattle.machine.specs.Memory.{addressFrom, wordFrom, wordBytes, needsOutside}
-use Rattle.machine.specs.Lanes.{lanesOn, laneOutcome, unmasked, recorded, gathered, raisesUnmasked}
+use Rattle.machine.specs.declared.Located.{Located}
+use Rattle.machine.specs.declared.Located.the-variants as place
+use Rattle.machine.specs.declared.Environment.{Environment}
+use Rattle.machine.specs.declared.Element.{Element}
+use Rattle.machine.specs.State.{State, Stepped}
+use Rattle.machine.specs.Memory.{needsOutside}
+use Rattle.machine.specs.Lanes.{Sources, lanesOn, registerHalves, memoryHalves, gathered, elementAt, unmasked, recorded, raisesUnmasked}
+use Rattle.machine.specs.Lanes.{Fill, computed, copied, vectorsWith}
 use Rattle.machine.specs.Step.{refused, stopped, completed}
 use Rattle.step.specs.declared.lanes.Results.{Results}
 
 -- ---- which lanes
 
+abbrev pub everyLane : ℕ → Bool
+everyLane j = true
+
 -- lane j is off, and keeps the old destination
 abbrev pub keptBy : (ℕ → Bool) → ℕ → Bool → ℕ → Bool
-keptBy on lanes zeroing j = not (on j) && (ltb j lanes && not zeroing)
+keptBy on elements zeroing j = not (on j) && (ltb j elements && not zeroing)
 
--- ---- addresses
+-- ---- the second source
 
-module _ (on : ℕ → Bool) where
-  unfoldable pub wordsOutside : ℕ → ℕ → Bool → Bool
-  wordsOutside memoryLength at broadcast =
-      some (λ j. on j && some (λ a. leb memoryLength a) (wordBytes (wordFrom at broadcast j))) (table 32 (λ j. j))
+-- a register's number is in range
+abbrev pub LocatedIn : Located → Type 0
+LocatedIn (place.Register n) = n < 32
+LocatedIn (place.Words at broadcast) = Unit {0}
 
-  abbrev pub outside : ℕ → List ℕ → ℕ → Operand → Bool
-  outside memoryLength general next (operand.Register n) = false
-  outside memoryLength general next (operand.Memory a broadcast) = wordsOutside memoryLength (addressFrom general next a) broadcast
+-- a register is read whole, and memory where a lane is on
+abbrev pub secondGathered : (ℕ → Bool) → List ℕ → List ℕ → Located → List ℕ
+secondGathered on vectors memory (place.Register n) = registerHalves everyLane vectors n
+secondGathered on vectors memory (place.Words at broadcast) = memoryHalves on memory at broadcast
 
-  -- ---- lanes
+-- ---- lanes
 
-  module _ (op : Operation) (mode : Mode) (ue : Bool) (d f x : List ℕ) where
-    abbrev pub laneAt : ℕ → Outcome
-    laneAt j = laneOutcome op mode ue (getD d j 0) (getD f j 0) (getD x j 0)
+unfoldable pub resultsWhere : (ℕ → Bool) → Operation → Environment → Sources → Results
+resultsWhere on op e g =
+    record {
+      halves = lanesOn on (λ j. elementAt op e g j .value);
+      flags = orAll (lanesOn on (λ j. elementAt op e g j .flags));
+    }
 
-    unfoldable pub resultsWhere : Results
-    resultsWhere =
-        record {
-          halves = lanesOn on (λ j. laneAt j .half);
-          flags = orAll (lanesOn on (λ j. laneAt j .flags));
-        }
-
--- a lane that is off
-abbrev pub nothing : Outcome
-nothing = record { half = 0; flags = 0 }
+-- of a lane that is off
+abbrev pub nothing : Element
+nothing = record { value = 0; flags = 0 }
 
 -- ---- the destination
 
--- byte q of a register
-abbrev pub byteWhere : (ℕ → Bool) → List ℕ → List ℕ → ℕ → ℕ
-byteWhere kept halves old q = cond (kept (q / 2)) (getD old q 0) (getD halves (q / 2) 0 / 256 ^ (q % 2) % 256)
-
-unfoldable pub storedBytes : (ℕ → Bool) → List ℕ → List ℕ → List ℕ
-storedBytes kept halves old = table 64 (byteWhere kept halves old)
-
-unfoldable pub storedFile : (ℕ → Bool) → List ℕ → ℕ → List ℕ → List ℕ
-storedFile kept halves n file =
-    let at = registerAt n in
-    paste file at (storedBytes kept halves (take 64 (drop at file))) 64
+-- a lane of register n that is kept, or else written with its result, which is 0 where the lane is off
+abbrev pub keptOr : (ℕ → Bool) → ℕ → ℕ → Fill
+keptOr kept n j = cond (kept j) (copied n) computed
 
 -- ---- the whole
 
@@ -91,7 +83,7 @@ finished on i r next vectors control pointer =
     (leftOf (record { number = 8; length = 0 }) vectors (recorded (i .rounding) control (r .flags)) pointer)
     (leftOf
     (record { number = 0; length = i .size })
-    (storedFile (keptBy on (i .lanes) (i .zeroing)) (r .halves) (i .destination) vectors)
+    (vectorsWith (keptOr (keptBy on (i .elements) (i .zeroing)) (i .destination)) (r .halves) (i .destination) vectors)
     (recorded (i .rounding) control (r .flags))
     next)
 

@@ -6,13 +6,16 @@ ghost use lib.Dec.{leb};
 ghost use Rattle.evex.specs.Bits.{isSet};
 ghost use Rattle.evex.proofs.Bounds.{BaseIn, IndexIn, OperandIn};
 ghost use Rattle.lists.specs.Lists.{some};
-ghost use Rattle.machine.specs.Memory.{wrapped, baseValue, indexValue, addressFrom, wordFrom, wordBytes};
-ghost use Rattle.step.specs.Work.{wordsOutside, outside};
+ghost use Rattle.machine.specs.Memory.{wrapped, baseValue, indexValue, addressFrom, located, wordFrom, wordBytes, outside};
+ghost use Rattle.machine.specs.declared.Located.the-variants.{Words};
+ghost use Rattle.step.specs.Work.{LocatedIn};
+use super::mask::end_of;
 use super::mask::has;
 use evex::Address;
 use evex::Base;
 use evex::Index;
 use evex::Operand;
+use machine::Located;
 
 // A signed number modulo 2 to the 64.
 fn wrapped(d: i32) -> u64
@@ -46,7 +49,7 @@ fn index_value(index: Index, general: &[u64; 16]) -> u64
     }
 }
 
-pub(crate) fn address(a: Address, general: &[u64; 16], next: u64) -> u64
+fn address(a: Address, general: &[u64; 16], next: u64) -> u64
     requires { ⌜ BaseIn (a .base) × IndexIn (a .index) ⌝ }
     ensures { λ r. ⌜ r ≡ addressFrom (now (general .entry)) next a ⌝ }
 {
@@ -78,39 +81,47 @@ fn word_outside(length: u64, at: u64) -> bool
 }
 
 // Lane j is on, and reads outside.
-fn lane_outside(on: u64, length: u64, at: u64, broadcast: bool, j: usize) -> bool
+fn lane_outside(on: u32, length: u64, at: u64, broadcast: bool, j: usize) -> bool
     requires { ⌜ j < 32 ⌝ }
     ensures { λ r. ⌜ r ≡ (isSet on j && some (λ a. leb length a) (wordBytes (wordFrom at broadcast j))) ⌝ }
 {
     has(on, j) & word_outside(length, word_from(at, broadcast, j))
 }
 
-fn words_outside(on: u64, length: u64, at: u64, broadcast: bool) -> bool
-    ensures { λ r. ⌜ r ≡ wordsOutside (isSet on) length at broadcast ⌝ }
+fn words_outside(on: u32, length: u64, at: u64, broadcast: bool) -> bool
+    ensures { λ r. ⌜ r ≡ outside (isSet on) length (Words at broadcast) ⌝ }
 {
     let mut found = false;
-    for j in 0..32 {
+    let end = end_of(on);
+    for j in 0..end {
         found = found | lane_outside(on, length, at, broadcast, j);
     }
     found
 }
 
-// R5.7: a lane that is on needs a byte outside a memory of this length.
-pub(crate) fn is_outside(
-    on: u64,
-    length: u64,
-    general: &[u64; 16],
-    next: u64,
-    second: Operand,
-) -> bool
+// Where the second source is. Its address is worked out here and nowhere else.
+pub(crate) fn locate(second: Operand, general: &[u64; 16], next: u64) -> Located
     requires { ⌜ OperandIn second ⌝ }
-    ensures { λ r. ⌜ r ≡ outside (isSet on) length (now (general .entry)) next second ⌝ }
+    ensures { λ r. ⌜ (r ≡ located (now (general .entry)) next second) × LocatedIn r ⌝ }
 {
     match second {
-        Operand::Register(_) => false,
+        Operand::Register(n) => Located::Register(n),
         Operand::Memory {
             address: a,
             broadcast,
-        } => words_outside(on, length, address(a, general, next), broadcast),
+        } => Located::Words {
+            at: address(a, general, next),
+            broadcast,
+        },
+    }
+}
+
+// R5.7: a lane that is on needs a byte outside a memory of this length.
+pub(crate) fn is_outside(on: u32, length: u64, second: Located) -> bool
+    ensures { λ r. ⌜ r ≡ outside (isSet on) length second ⌝ }
+{
+    match second {
+        Located::Register(_) => false,
+        Located::Words { at, broadcast } => words_outside(on, length, at, broadcast),
     }
 }

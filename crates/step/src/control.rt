@@ -4,9 +4,10 @@ ghost use mathlib.Core.Bool.{not};
 ghost use lib.Bits.{bitAnd, bitOr};
 ghost use lib.Dec.{eqb};
 ghost use Rattle.machine.specs.State.{controlMode, unmaskedFlags};
-ghost use Rattle.machine.specs.Lanes.{roundingMode, unmasked, unmaskedUE, recorded};
+ghost use Rattle.machine.specs.Lanes.{roundingMode, unmasked, environmentOf, recorded};
 use evex::Rounding;
 use half::Mode;
+use machine::Environment;
 
 pub struct Control {
     pub bits: u32,
@@ -36,7 +37,7 @@ impl Control {
 
     // R7.5: embedded rounding has its own mode, every exception masked, and no flag set.
 
-    pub(crate) fn rounding_mode(self, rounding: Rounding) -> Mode
+    fn rounding_mode(self, rounding: Rounding) -> Mode
         ensures { λ r. ⌜ r ≡ roundingMode rounding (self .bits) ⌝ }
     {
         match rounding {
@@ -54,11 +55,13 @@ impl Control {
         }
     }
 
-    // Whether UE, bit 4, is unmasked.
-    pub(crate) fn unmasked_ue(self, rounding: Rounding) -> bool
-        ensures { λ r. ⌜ r ≡ unmaskedUE rounding (self .bits) ⌝ }
+    // What an operation is told: the mode, and whether UE, bit 4, is unmasked.
+    pub(crate) fn environment(self, rounding: Rounding) -> Environment
+        ensures { λ r. ⌜ r ≡ environmentOf rounding (self .bits) ⌝ }
     {
-        (self.unmasked(rounding) >> 4) % 2 == 1
+        let mode = self.rounding_mode(rounding);
+        let underflow = (self.unmasked(rounding) >> 4) % 2 == 1;
+        Environment { mode, underflow }
     }
 
     pub(crate) fn recorded(self, rounding: Rounding, flags: u8) -> Control

@@ -2,17 +2,19 @@
 ghost use mathlib.Core.Path.{_≡_};
 ghost use mathlib.Core.Bool.{cond};
 ghost use Rattle.evex.specs.Bits.{isSet};
-ghost use Rattle.machine.specs.Lanes.{laneOutcome};
+ghost use Rattle.machine.specs.Lanes.{rounded, operated};
 ghost use Rattle.step.specs.Work.{nothing, resultsWhere};
+use super::mask::end_of;
 use super::mask::has;
 use evex::Operation;
-use half::Mode;
 use half::Outcome;
 use half::fused;
 use half::product;
 use half::quotient;
 use half::root;
 use half::sum;
+use machine::Element;
+use machine::Environment;
 
 // 0 in lanes that are off.
 pub struct Results {
@@ -20,55 +22,58 @@ pub struct Results {
     pub flags: u8,
 }
 
-// One lane: d is the destination's, f the first source's, x the second's; `ue` says whether UE is unmasked.
-fn lane(operation: Operation, mode: Mode, ue: bool, d: u16, f: u16, x: u16) -> Outcome
-    ensures { λ r. ⌜ r ≡ laneOutcome operation mode ue d f x ⌝ }
+fn rounded(o: Outcome) -> Element
+    ensures { λ r. ⌜ r ≡ rounded o ⌝ }
 {
-    match operation {
-        Operation::Add => sum::add(mode, ue, f, x),
-        Operation::Multiply => product::multiply(mode, ue, f, x),
-        Operation::Subtract => sum::subtract(mode, ue, f, x),
-        Operation::Divide => quotient::divide(mode, ue, f, x),
-        Operation::SquareRoot => root::square_root(mode, ue, x),
-        Operation::Fused132 => fused::multiply_add(mode, ue, d, x, f),
-        Operation::Fused213 => fused::multiply_add(mode, ue, f, d, x),
-        Operation::Fused231 => fused::multiply_add(mode, ue, f, x, d),
+    Element {
+        value: o.half,
+        flags: o.flags,
     }
 }
 
-fn lane_if(
-    is_on: bool,
-    operation: Operation,
-    mode: Mode,
-    ue: bool,
-    d: u16,
-    f: u16,
-    x: u16,
-) -> Outcome
-    ensures { λ r. ⌜ r ≡ cond «is_on» (laneOutcome operation mode ue d f x) nothing ⌝ }
+// One element: d is the destination's, f the first source's, x the second's. A line for each operation.
+fn operate(operation: Operation, e: Environment, d: u16, f: u16, x: u16) -> Element
+    ensures { λ r. ⌜ r ≡ operated operation e d f x ⌝ }
+{
+    let mode = e.mode;
+    let ue = e.underflow;
+    match operation {
+        Operation::Add => rounded(sum::add(mode, ue, f, x)),
+        Operation::Multiply => rounded(product::multiply(mode, ue, f, x)),
+        Operation::Subtract => rounded(sum::subtract(mode, ue, f, x)),
+        Operation::Divide => rounded(quotient::divide(mode, ue, f, x)),
+        Operation::SquareRoot => rounded(root::square_root(mode, ue, x)),
+        Operation::Fused132 => rounded(fused::multiply_add(mode, ue, d, x, f)),
+        Operation::Fused213 => rounded(fused::multiply_add(mode, ue, f, d, x)),
+        Operation::Fused231 => rounded(fused::multiply_add(mode, ue, f, x, d)),
+    }
+}
+
+fn operate_if(is_on: bool, operation: Operation, e: Environment, d: u16, f: u16, x: u16) -> Element
+    ensures { λ r. ⌜ r ≡ cond «is_on» (operated operation e d f x) nothing ⌝ }
 {
     if is_on {
-        return lane(operation, mode, ue, d, f, x);
+        return operate(operation, e, d, f, x);
     }
-    Outcome { half: 0, flags: 0 }
+    Element { value: 0, flags: 0 }
 }
 
 pub(crate) fn all_lanes(
-    on: u64,
+    on: u32,
     operation: Operation,
-    mode: Mode,
-    ue: bool,
+    e: Environment,
     d: [u16; 32],
     f: [u16; 32],
     x: [u16; 32],
 ) -> Results
-    ensures { λ r. ⌜ r ≡ resultsWhere (isSet on) operation mode ue d f x ⌝ }
+    ensures { λ r. ⌜ r ≡ resultsWhere (isSet on) operation e (record { destination = d; first = f; second = x }) ⌝ }
 {
     let mut halves = [0u16; 32];
     let mut flags = 0u8;
-    for j in 0..32 {
-        let r = lane_if(has(on, j), operation, mode, ue, d[j], f[j], x[j]);
-        halves[j] = r.half;
+    let end = end_of(on);
+    for j in 0..end {
+        let r = operate_if(has(on, j), operation, e, d[j], f[j], x[j]);
+        halves[j] = r.value;
         flags = flags | r.flags;
     }
     Results { halves, flags }

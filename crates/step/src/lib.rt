@@ -7,6 +7,7 @@ ghost use Rattle.machine.specs.Step.{step};
 ghost use Rattle.machine.specs.State.{stateOf, steppedOf};
 ghost use Rattle.step.specs.Work.{leftOf, finished, executed, refusalNumber};
 use address::is_outside;
+use address::locate;
 use control::Control;
 use evex::Decoded;
 use evex::Instruction;
@@ -15,8 +16,8 @@ use lanes::all_lanes;
 use machine::Answer;
 use mask::lanes_kept;
 use mask::lanes_on;
+use sources::destination_halves;
 use sources::first_halves;
-use sources::register_halves;
 use sources::second_halves;
 use store::store;
 
@@ -49,7 +50,7 @@ fn finish(
     control: &mut u32,
     pointer: &mut u64,
     i: Instruction,
-    on: u64,
+    on: u32,
     next: u64,
     results: Results,
 ) -> Answer
@@ -67,7 +68,7 @@ fn finish(
         return ended(8);
     }
     let halves = results.halves;
-    let kept = lanes_kept(on, i.lanes, i.zeroing);
+    let kept = lanes_kept(on, i.elements, i.zeroing);
     store(vectors, i.destination, kept, halves);
     *control = flagged.bits;
     *pointer = next;
@@ -96,21 +97,22 @@ fn execute(
         ⌝ }
 {
     let next = std::num::wrapping_add_u64(*pointer, i.size as u64);
-    let on = lanes_on(masks, i.mask, i.lanes);
-    let second = i.second;
-    if is_outside(on, memory.len() as u64, general, next, second) {
+    let on = lanes_on(masks, i.mask, i.elements);
+    let operand = i.second;
+    let second = locate(operand, general, next);
+    if is_outside(on, memory.len() as u64, second) {
         return ended(7);
     }
+    let shape = i.shape;
     let first = i.first;
-    let d = register_halves(on, vectors, i.destination);
-    let f = first_halves(on, vectors, first);
-    let x = second_halves(on, vectors, memory, general, next, second);
+    let d = destination_halves(vectors, shape.accumulates, i.destination);
+    let f = first_halves(vectors, first);
+    let x = second_halves(on, vectors, memory, second);
     let operation = i.operation;
     let rounding = i.rounding;
     let word = Control { bits: *control };
-    let mode = word.rounding_mode(rounding);
-    let ue = word.unmasked_ue(rounding);
-    let results = all_lanes(on, operation, mode, ue, d, f, x);
+    let environment = word.environment(rounding);
+    let results = all_lanes(on, operation, environment, d, f, x);
     finish(vectors, control, pointer, i, on, next, results)
 }
 

@@ -1,43 +1,50 @@
-// Sets of lanes as bits, lane j's being bit j.
+// Sets of lanes as 32 bits, lane j's being bit j.
 ghost use mathlib.Core.Path.{_≡_};
 ghost use Prim.Native.Nat.{_-_, _^_, _≤_, _<_};
 ghost use Rattle.evex.specs.Bits.{isSet};
 ghost use Rattle.machine.specs.Memory.{isOn};
 ghost use Rattle.step.specs.Work.{keptBy};
 
-pub(crate) fn has(bits: u64, j: usize) -> bool
-    requires { ⌜ j < 64 ⌝ }
-    ensures { λ r. ⌜ r ≡ isSet bits j ⌝ }
+pub(crate) fn has(lanes: u32, j: usize) -> bool
+    requires { ⌜ j < 32 ⌝ }
+    ensures { λ r. ⌜ r ≡ isSet lanes j ⌝ }
 {
-    (bits >> j) % 2 == 1
+    (lanes >> j) % 2 == 1
+}
+
+// One more than the highest lane of a set, 0 where it has none. Loops end there.
+pub(crate) fn end_of(lanes: u32) -> usize
+    ensures { λ r. ⌜ (lanes < 2 ^ r) × (r ≤ 32) ⌝ }
+{
+    (32 - u32::leading_zeros(lanes)) as usize
 }
 
 // The lanes below a number.
-fn below(lanes: usize) -> u64
-    requires { ⌜ lanes ≤ 32 ⌝ }
-    ensures { λ r. ⌜ r ≡ 2 ^ lanes - 1 ⌝ }
+fn below(n: usize) -> u32
+    requires { ⌜ n ≤ 32 ⌝ }
+    ensures { λ r. ⌜ r ≡ 2 ^ n - 1 ⌝ }
 {
-    (1 << lanes) - 1
+    ((1u64 << n) - 1) as u32
 }
 
 // R5.1: the lanes that are on.
-pub(crate) fn lanes_on(masks: &[u64; 8], mask: usize, lanes: usize) -> u64
-    requires { ⌜ (mask < 8) × (lanes ≤ 32) ⌝ }
-    ensures { λ r. ⌜ isSet r ≡ isOn (now (masks .entry)) mask lanes ⌝ }
+pub(crate) fn lanes_on(masks: &[u64; 8], mask: usize, elements: usize) -> u32
+    requires { ⌜ (mask < 8) × (elements ≤ 32) ⌝ }
+    ensures { λ r. ⌜ isSet r ≡ isOn (now (masks .entry)) mask elements ⌝ }
 {
     if mask == 0 {
-        return below(lanes);
+        return below(elements);
     }
-    masks[mask] & below(lanes)
+    (masks[mask] & (below(elements) as u64)) as u32
 }
 
 // R5.9: the lanes that are off and keep their half.
-pub(crate) fn lanes_kept(on: u64, lanes: usize, zeroing: bool) -> u64
-    requires { ⌜ lanes ≤ 32 ⌝ }
-    ensures { λ r. ⌜ isSet r ≡ keptBy (isSet on) lanes zeroing ⌝ }
+pub(crate) fn lanes_kept(on: u32, elements: usize, zeroing: bool) -> u32
+    requires { ⌜ elements ≤ 32 ⌝ }
+    ensures { λ r. ⌜ isSet r ≡ keptBy (isSet on) elements zeroing ⌝ }
 {
     if zeroing {
         return 0;
     }
-    (on ^ u64::MAX) & below(lanes)
+    (on ^ u32::MAX) & below(elements)
 }

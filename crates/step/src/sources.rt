@@ -1,4 +1,5 @@
-// The three sources (R5.3, R5.5), each as 32 halves by value. For a lane that is off nothing is read (R5.2), and it has 0.
+// The three sources (R5.3, R5.5), each as 32 halves by value. Registers are read whole: what a lane that is off has does not count, as
+// nothing is computed for it (R5.2). Memory is read only where a lane is on.
 ghost use mathlib.Core.Path.{_≡_};
 ghost use mathlib.Core.Bool.{false, cond};
 ghost use mathlib.Core.List.{[], _∷_};
@@ -6,16 +7,16 @@ ghost use Prim.Native.Nat.{_+_, _<_};
 ghost use lib.ListN.{length};
 ghost use Rattle.lists.specs.Lists.{numberAt};
 ghost use Rattle.evex.specs.Bits.{isSet};
-ghost use Rattle.evex.proofs.Bounds.{SourceIn, OperandIn};
-ghost use Rattle.machine.specs.State.{lanePlaces};
-ghost use Rattle.machine.specs.Memory.{wordFrom, wordBytes};
-ghost use Rattle.machine.specs.Lanes.{registerHalves, memoryHalves, firstHalves, secondHalves};
-ghost use Rattle.step.specs.Work.{wordsOutside, outside};
-use super::address::address;
+ghost use Rattle.evex.proofs.Bounds.{SourceIn};
+ghost use Rattle.machine.specs.Memory.{wordFrom, wordBytes, outside};
+ghost use Rattle.machine.specs.Lanes.{registerHalves, memoryHalves, destinationHalves, firstHalves};
+ghost use Rattle.machine.specs.declared.Located.the-variants.{Words};
+ghost use Rattle.step.specs.Work.{LocatedIn, everyLane, secondGathered};
 use super::address::word_from;
+use super::mask::end_of;
 use super::mask::has;
-use evex::Operand;
 use evex::Source;
+use machine::Located;
 
 fn wide(x: u8) -> u16
     ensures { λ r. ⌜ (r ≡ x) × (r < 256) ⌝ }
@@ -31,29 +32,19 @@ fn half_at(bytes: &[u8], at: usize) -> u16
     wide(bytes[at]) + wide(bytes[at + 1]) * 256
 }
 
-fn register_half(on: u64, vectors: &[u8], n: usize, j: usize) -> u16
-    requires { ⌜ (length (now vectors) ≡ 2048) × (n < 32) × (j < 32) ⌝ }
-    ensures { λ r. ⌜ r ≡ cond (isSet on j) (numberAt (now (vectors .entry)) (lanePlaces n j)) 0 ⌝ }
-{
-    if has(on, j) {
-        return half_at(vectors, n * 64 + 2 * j);
-    }
-    0
-}
-
-pub(crate) fn register_halves(on: u64, vectors: &[u8], n: usize) -> [u16; 32]
+fn register_halves(vectors: &[u8], n: usize) -> [u16; 32]
     requires { ⌜ (length (now vectors) ≡ 2048) × (n < 32) ⌝ }
-    ensures { λ r. ⌜ r ≡ registerHalves (isSet on) (now (vectors .entry)) n ⌝ }
+    ensures { λ r. ⌜ r ≡ registerHalves everyLane (now (vectors .entry)) n ⌝ }
 {
     let mut halves = [0u16; 32];
     for j in 0..32 {
-        halves[j] = register_half(on, vectors, n, j);
+        halves[j] = half_at(vectors, n * 64 + 2 * j);
     }
     halves
 }
 
-fn memory_half(on: u64, memory: &[u8], at: u64, broadcast: bool, j: usize) -> u16
-    requires { ⌜ (wordsOutside (isSet on) (length (now memory)) at broadcast ≡ false) × (j < 32) ⌝ }
+fn memory_half(on: u32, memory: &[u8], at: u64, broadcast: bool, j: usize) -> u16
+    requires { ⌜ (outside (isSet on) (length (now memory)) (Words at broadcast) ≡ false) × (j < 32) ⌝ }
     ensures { λ r. ⌜ r ≡ cond (isSet on j) (numberAt (now (memory .entry)) (wordBytes (wordFrom at broadcast j))) 0 ⌝ }
 {
     if has(on, j) {
@@ -62,46 +53,47 @@ fn memory_half(on: u64, memory: &[u8], at: u64, broadcast: bool, j: usize) -> u1
     0
 }
 
-fn memory_halves(on: u64, memory: &[u8], at: u64, broadcast: bool) -> [u16; 32]
-    requires { ⌜ wordsOutside (isSet on) (length (now memory)) at broadcast ≡ false ⌝ }
+fn memory_halves(on: u32, memory: &[u8], at: u64, broadcast: bool) -> [u16; 32]
+    requires { ⌜ outside (isSet on) (length (now memory)) (Words at broadcast) ≡ false ⌝ }
     ensures { λ r. ⌜ r ≡ memoryHalves (isSet on) (now (memory .entry)) at broadcast ⌝ }
 {
     let mut halves = [0u16; 32];
-    for j in 0..32 {
+    let end = end_of(on);
+    for j in 0..end {
         halves[j] = memory_half(on, memory, at, broadcast, j);
     }
     halves
 }
 
-pub(crate) fn first_halves(on: u64, vectors: &[u8], first: Source) -> [u16; 32]
+// R2.2: the destination, where it is a source.
+pub(crate) fn destination_halves(vectors: &[u8], accumulates: bool, n: usize) -> [u16; 32]
+    requires { ⌜ (length (now vectors) ≡ 2048) × (n < 32) ⌝ }
+    ensures { λ r. ⌜ r ≡ destinationHalves everyLane (now (vectors .entry)) accumulates n ⌝ }
+{
+    if accumulates {
+        return register_halves(vectors, n);
+    }
+    [0u16; 32]
+}
+
+pub(crate) fn first_halves(vectors: &[u8], first: Source) -> [u16; 32]
     requires { ⌜ (length (now vectors) ≡ 2048) × SourceIn first ⌝ }
-    ensures { λ r. ⌜ r ≡ firstHalves (isSet on) (now (vectors .entry)) first ⌝ }
+    ensures { λ r. ⌜ r ≡ firstHalves everyLane (now (vectors .entry)) first ⌝ }
 {
     match first {
         Source::None => [0u16; 32],
-        Source::Register(n) => register_halves(on, vectors, n),
+        Source::Register(n) => register_halves(vectors, n),
     }
 }
 
-pub(crate) fn second_halves(
-    on: u64,
-    vectors: &[u8],
-    memory: &[u8],
-    general: &[u64; 16],
-    next: u64,
-    second: Operand,
-) -> [u16; 32]
+pub(crate) fn second_halves(on: u32, vectors: &[u8], memory: &[u8], second: Located) -> [u16; 32]
     requires { ⌜
-        (length (now vectors) ≡ 2048) × OperandIn second
-        × (outside (isSet on) (length (now memory)) (now general) next second ≡ false)
+        (length (now vectors) ≡ 2048) × LocatedIn second × (outside (isSet on) (length (now memory)) second ≡ false)
         ⌝ }
-    ensures { λ r. ⌜ r ≡ secondHalves (isSet on) (now (vectors .entry)) (now (memory .entry)) (now (general .entry)) next second ⌝ }
+    ensures { λ r. ⌜ r ≡ secondGathered (isSet on) (now (vectors .entry)) (now (memory .entry)) second ⌝ }
 {
     match second {
-        Operand::Register(n) => register_halves(on, vectors, n),
-        Operand::Memory {
-            address: a,
-            broadcast,
-        } => memory_halves(on, memory, address(a, general, next), broadcast),
+        Located::Register(n) => register_halves(vectors, n),
+        Located::Words { at, broadcast } => memory_halves(on, memory, at, broadcast),
     }
 }

@@ -4,7 +4,9 @@ ghost use mathlib.Core.Bool.{cond};
 ghost use Prim.Native.Nat.{_+_, _*_, _/_, _%_, _<_};
 ghost use lib.ListN.{length, set};
 ghost use Rattle.evex.specs.Bits.{isSet};
-ghost use Rattle.step.specs.Work.{storedBytes, storedFile};
+ghost use Rattle.machine.specs.Lanes.{newRegister, vectorsWith};
+ghost use Rattle.step.specs.Work.{keptOr};
+use super::mask::end_of;
 use super::mask::has;
 
 fn low_byte(half: u16) -> u8
@@ -19,6 +21,16 @@ fn high_byte(half: u16) -> u8
     (half / 256) as u8
 }
 
+// The register's lane j.
+fn store_half(register: &mut [u8], half: u16, j: usize)
+    requires { ⌜ (length (now register) ≡ 64) × (j < 32) ⌝ }
+    ensures { λ _. ⌜ now (register .exit) ≡ set (set (now (register .entry)) (2 * j) (half % 256)) (2 * j + 1) (half / 256 % 256) ⌝ }
+{
+    let at = 2 * j;
+    register[at] = low_byte(half);
+    register[at + 1] = high_byte(half);
+}
+
 fn store_lane(register: &mut [u8], is_kept: bool, half: u16, j: usize)
     requires { ⌜ (length (now register) ≡ 64) × (j < 32) ⌝ }
     ensures { λ _. ⌜
@@ -29,23 +41,45 @@ fn store_lane(register: &mut [u8], is_kept: bool, half: u16, j: usize)
     if is_kept {
         return;
     }
-    let at = 2 * j;
-    register[at] = low_byte(half);
-    register[at + 1] = high_byte(half);
+    store_half(register, half, j);
 }
 
-fn store_lanes(register: &mut [u8], kept: u64, halves: [u16; 32])
+// No lane is kept.
+fn store_all(register: &mut [u8], halves: [u16; 32])
     requires { ⌜ length (now register) ≡ 64 ⌝ }
-    ensures { λ _. ⌜ now (register .exit) ≡ storedBytes (isSet kept) halves (now (register .entry)) ⌝ }
+    ensures { λ _. ⌜ now (register .exit) ≡ newRegister (keptOr (isSet 0) 0) (now (register .entry)) halves ⌝ }
 {
     for j in 0..32 {
+        store_half(register, halves[j], j);
+    }
+}
+
+// Those above the last that is written are left without a look.
+fn store_some(register: &mut [u8], kept: u32, halves: [u16; 32])
+    requires { ⌜ length (now register) ≡ 64 ⌝ }
+    ensures { λ _. ⌜ now (register .exit) ≡ newRegister (keptOr (isSet kept) 0) (now (register .entry)) halves ⌝ }
+{
+    let end = end_of(kept ^ u32::MAX);
+    for j in 0..end {
         store_lane(register, has(kept, j), halves[j], j);
     }
 }
 
-pub(crate) fn store(vectors: &mut [u8], n: usize, kept: u64, halves: [u16; 32])
+// A register by itself: a file of one register.
+fn store_lanes(register: &mut [u8], kept: u32, halves: [u16; 32])
+    requires { ⌜ length (now register) ≡ 64 ⌝ }
+    ensures { λ _. ⌜ now (register .exit) ≡ newRegister (keptOr (isSet kept) 0) (now (register .entry)) halves ⌝ }
+{
+    if kept == 0 {
+        store_all(register, halves);
+        return;
+    }
+    store_some(register, kept, halves);
+}
+
+pub(crate) fn store(vectors: &mut [u8], n: usize, kept: u32, halves: [u16; 32])
     requires { ⌜ (length (now vectors) ≡ 2048) × (n < 32) ⌝ }
-    ensures { λ _. ⌜ now (vectors .exit) ≡ storedFile (isSet kept) halves n (now (vectors .entry)) ⌝ }
+    ensures { λ _. ⌜ now (vectors .exit) ≡ vectorsWith (keptOr (isSet kept) n) halves n (now (vectors .entry)) ⌝ }
 {
     let at = n * 64;
     let end = at + 64;

@@ -16,6 +16,9 @@ wrapping-add-u64-requires c κs = search needs
 lanes-on-requires : tie.Need-lanes-on-requires
 lanes-on-requires c κs = search needs
 
+locate-requires : tie.Need-locate-requires
+locate-requires c κs = search needs
+
 is-outside-requires : tie.Need-is-outside-requires
 is-outside-requires c κs = search needs
 
@@ -24,31 +27,30 @@ ended-requires c κs = search needs
 
 returns : tie.Need-returns
 returns c =
-    let tested : tie.After-is-outside = c .before .before in
-    let start : tie.Start = tested .before .before .before .before .before .before in
+    let located : tie.After-locate = c .before .before .before in
+    let start : tie.Start = located .before .before .before .before .before .before in
     rw (c .ended .ensures)
     (refuses (start .args .memory .now) (state start) (start .args .i)
-    (isSet (tested .before .lanes-on .result)) (tested .before .lanes-on .ensures)
-    (tested .before .before .wrapping-add-u64 .result) (tested .before .before .wrapping-add-u64 .ensures)
-    (rw (← tested .is-outside .ensures) (c .before .if1 .taken)))
+    (isSet (located .before .lanes-on .result)) (located .before .lanes-on .ensures)
+    (located .before .before .wrapping-add-u64 .result) (located .before .before .wrapping-add-u64 .ensures)
+    (located .locate .result) (located .locate .ensures .0)
+    (rw (← c .before .before .is-outside .ensures) (c .before .if1 .taken)))
 
-register-halves-requires : tie.Need-register-halves-requires
-register-halves-requires c κs = search needs
+destination-halves-requires : tie.Need-destination-halves-requires
+destination-halves-requires c κs = search needs
 
 first-halves-requires : tie.Need-first-halves-requires
 first-halves-requires c κs = search needs
 
 second-halves-requires : tie.Need-second-halves-requires
 second-halves-requires c κs =
-    let inside : tie.Else1 = c .before .before .before .before .before in
-    let start : tie.Start = inside .before .before .before .before .before .before .before in
-    (start .pre .0, start .pre .1 .second, rw (← inside .before .is-outside .ensures) (inside .if1 .left))
+    let inside : tie.Else1 = c .before .before .before .before .before .before in
+    let located : tie.After-locate = inside .before .before in
+    let start : tie.Start = located .before .before .before .before .before .before in
+    (start .pre .0, located .locate .ensures .1, rw (← inside .before .is-outside .ensures) (inside .if1 .left))
 
-rounding-mode-requires : tie.Need-rounding-mode-requires
-rounding-mode-requires c κs = search needs
-
-unmasked-ue-requires : tie.Need-unmasked-ue-requires
-unmasked-ue-requires c κs = search needs
+environment-requires : tie.Need-environment-requires
+environment-requires c κs = search needs
 
 all-lanes-requires : tie.Need-all-lanes-requires
 all-lanes-requires c κs = search needs
@@ -56,7 +58,7 @@ all-lanes-requires c κs = search needs
 finish-requires : tie.Need-finish-requires
 finish-requires c κs =
     let far = c .before .before .before .before .before .before .before .before .before .before in
-    let start : tie.Start = far .before .before .before .before .before .before .before .before .before .before in
+    let start : tie.Start = far .before .before .before .before .before .before .before .before .before .before .before in
     start .pre
 
 same-length : tie.Need-same-length
@@ -65,19 +67,21 @@ same-length c = search needs
 returns-2 : tie.Need-returns-2
 returns-2 c =
     let lanes : tie.After-all-lanes = c .before .before .before .before .before .before in
-    let inside : tie.Else1 = lanes .before .before .before .before .before .before .before .before .before .before in
-    let start : tie.Start = inside .before .before .before .before .before .before .before in
+    let second : tie.After-second-halves = lanes .before .before .before in
+    let inside : tie.Else1 = second .before .before .before .before .before .before .before in
+    let located : tie.After-locate = inside .before .before in
+    let start : tie.Start = located .before .before .before .before .before .before in
     finishes (start .args .memory .now) (state start) (start .args .i)
-    (isSet (inside .before .before .lanes-on .result)) (inside .before .before .lanes-on .ensures)
-    (inside .before .before .before .wrapping-add-u64 .result) (inside .before .before .before .wrapping-add-u64 .ensures)
+    (isSet (located .before .lanes-on .result)) (located .before .lanes-on .ensures)
+    (located .before .before .wrapping-add-u64 .result) (located .before .before .wrapping-add-u64 .ensures)
+    (located .locate .result) (located .locate .ensures .0)
     (rw (← inside .before .is-outside .ensures) (inside .if1 .left))
     (lanes .all-lanes .result)
     (rw (
-      lanes .before .before .rounding-mode .ensures,
-      lanes .before .unmasked-ue .ensures,
-      lanes .before .before .before .before .before .before .before .before .register-halves .ensures,
-      lanes .before .before .before .before .before .before .first-halves .ensures,
-      lanes .before .before .before .before .second-halves .ensures,
+      lanes .before .environment .ensures,
+      second .before .before .before .before .destination-halves .ensures,
+      second .before .before .first-halves .ensures,
+      second .second-halves .ensures,
     )
     at (lanes .all-lanes .ensures))
     (c .before .before .finish .ensures)
@@ -88,14 +92,14 @@ execute-spec =
     (tie.spec
     wrapping-add-u64-requires
     lanes-on-requires
+    locate-requires
     is-outside-requires
     ended-requires
     returns
-    register-halves-requires
+    destination-halves-requires
     first-halves-requires
     second-halves-requires
-    rounding-mode-requires
-    unmasked-ue-requires
+    environment-requires
     all-lanes-requires
     finish-requires
     same-length

@@ -9,10 +9,13 @@ shl-result : tie.Need-shl-result
 shl-result c = search needs
 
 sub-result : tie.Need-sub-result
-sub-result c = omega (arith, pow-pos (c .args .lanes), pow-mono {i = c .args .lanes} {j = 32} (c .pre))
+sub-result c = omega (arith, pow-pos (c .args .n), pow-mono {i = c .args .n} {j = 32} (c .pre))
+
+cast-result : tie.Need-cast-result
+cast-result c = record { fits = omega (arith, pow-pos (c .args .n), pow-mono {i = c .args .n} {j = 32} (c .pre)) }
 
 returns : tie.Need-returns
-returns c = omega (arith, pow-pos (c .args .lanes), pow-mono {i = c .args .lanes} {j = 32} (c .pre))
+returns c = omega (arith, pow-pos (c .args .n), pow-mono {i = c .args .n} {j = 32} (c .pre))
 
 pub below-spec : {M : Type 1} → statement M
-below-spec = tie.close (tie.spec shl-result sub-result returns)
+below-spec = tie.close (tie.spec shl-result sub-result cast-result returns)

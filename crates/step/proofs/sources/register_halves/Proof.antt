@@ -1,10 +1,8 @@
 -- `step::sources::register_halves` meets its contract: the loop fills the halves lane by lane.
 use Prim.Native.Nat.{_-_}
 use mathlib.Core.Path.{refl}
-use mathlib.Core.Bool.{cond}
 use native.Mathlib.Omega.{arith}
 use Rattle.lists.specs.Lists.{numberAt}
-use Rattle.evex.specs.Bits.{isSet}
 use Rattle.machine.specs.State.{lanePlaces}
 use Rattle.machine.specs.Lanes.{registerHalves}
 use Rattle.step.proofs.Filling.{Filled, none, more, all}
@@ -12,16 +10,25 @@ use Rattle.step.proofs.sources.register_halves.Statement.{statement}
 use Rattle.step.proofs.sources.register_halves.Tie as tie
 
 abbrev Inv-loop : tie.InvT-loop
-Inv-loop on vectors n halves₀ j₀ halves j = Filled (λ k. cond (isSet on k) (numberAt vectors (lanePlaces n k)) 0) 32 halves₀ halves j
+Inv-loop vectors n halves₀ j₀ halves j = Filled (λ k. numberAt vectors (lanePlaces n k)) 32 halves₀ halves j
 
 abbrev μ-loop : tie.MeasureT-loop
-μ-loop on vectors n halves₀ j₀ halves j = 32 - j
+μ-loop vectors n halves₀ j₀ halves j = 32 - j
 
 loop-holds : tie.Need-loop-holds Inv-loop μ-loop
 loop-holds c = none refl
 
-register-half-requires : tie.Need-register-half-requires Inv-loop μ-loop
-register-half-requires c κs = omega arith
+mul-half-at : tie.Need-mul-half-at Inv-loop μ-loop
+mul-half-at c = omega arith
+
+mul-half-at-2 : tie.Need-mul-half-at-2 Inv-loop μ-loop
+mul-half-at-2 c = omega arith
+
+add-half-at : tie.Need-add-half-at Inv-loop μ-loop
+add-half-at c = omega arith
+
+half-at-requires : tie.Need-half-at-requires Inv-loop μ-loop
+half-at-requires c κs = omega arith
 
 mul-halves : tie.Need-mul-halves Inv-loop μ-loop
 mul-halves c = omega arith
@@ -36,11 +43,11 @@ loop-less : tie.Need-loop-less Inv-loop μ-loop
 loop-less c = omega arith
 
 loop-again : tie.Need-loop-again Inv-loop μ-loop
-loop-again c = more (c .before .before .loop .inv) (omega arith) (c .register-half .ensures)
+loop-again c = more (c .before .before .loop .inv) (omega arith) (c .half-at .ensures)
 
 returns : tie.Need-returns Inv-loop μ-loop
 unfolding registerHalves
-returns c = all (c .before .loop .inv) (c .loop-test .left)
+returns c = all (c .before .loop .inv) (λ k h l. absurd (omega (arith, c .loop-test .left)))
 
 pub register-halves-spec : {M : Type 1} → statement M
 register-halves-spec =
@@ -49,7 +56,10 @@ register-halves-spec =
     Inv-loop
     μ-loop
     loop-holds
-    register-half-requires
+    mul-half-at
+    mul-half-at-2
+    add-half-at
+    half-at-requires
     mul-halves
     array-write-halves
     add-j

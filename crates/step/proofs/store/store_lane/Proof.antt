@@ -1,6 +1,4 @@
--- `step::store::store_lane` meets its contract: two bytes are stored, unless the lane is kept.
-use native.Mathlib.Omega.{arith}
-use lib.ListN.{length-set}
+-- `step::store::store_lane` meets its contract: unless the lane is kept it is stored.
 use borrow.Author.Needs.{needs}
 use Rattle.step.proofs.store.store_lane.Statement.{statement}
 use Rattle.step.proofs.store.store_lane.Tie as tie
@@ -8,40 +6,14 @@ use Rattle.step.proofs.store.store_lane.Tie as tie
 returns : tie.Need-returns
 returns c = search needs
 
-mul-at : tie.Need-mul-at
-mul-at c = search needs
-
-low-byte-requires : tie.Need-low-byte-requires
-low-byte-requires c κs = search needs
-
-slice-write-register : tie.Need-slice-write-register
-slice-write-register c = search needs
-
-high-byte-requires : tie.Need-high-byte-requires
-high-byte-requires c κs = search needs
-
-add-register : tie.Need-add-register
-add-register c = search needs
-
-slice-write-register-2 : tie.Need-slice-write-register-2
-slice-write-register-2 c = simp length-set (omega arith)
+store-half-requires : tie.Need-store-half-requires
+store-half-requires c κs = search needs
 
 same-length : tie.Need-same-length
 same-length c = search needs
 
 returns-2 : tie.Need-returns-2
-returns-2 c = rw (c .before .before .if1 .left, c .before .low-byte .ensures, c .high-byte .ensures)
+returns-2 c = rw (c .before .before .before .before .if1 .left) (c .before .before .store-half .ensures)
 
 pub store-lane-spec : {M : Type 1} → statement M
-store-lane-spec =
-    tie.close
-    (tie.spec
-    returns
-    mul-at
-    low-byte-requires
-    slice-write-register
-    high-byte-requires
-    add-register
-    slice-write-register-2
-    same-length
-    returns-2)
+store-lane-spec = tie.close (tie.spec returns store-half-requires same-length returns-2)
