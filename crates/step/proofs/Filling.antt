@@ -79,6 +79,9 @@ module _ {f : ℕ → ℕ} {x j : ℕ} (O : Ored f x j) where
   pub or-more : {v : ℕ} → v ≡ f j → Ored f (bitOr x v) (j + 1)
   or-more e = record { is = rw (O .is, e) (sym (or-next j f)) }
 
+  pub or-same : f j ≡ 0 → Ored f x (j + 1)
+  or-same e = record { is = O .is ∙ sym (or-next j f ∙ rw (e, or-zero-r (orAll (table j f)))) }
+
   pub or-all : {n : ℕ} → j ≤ n → ((k : ℕ) → j ≤ k → f k ≡ 0) → x ≡ orAll (table n f)
   or-all {n} h rest = O .is ∙ sym (le-ind (λ (i : ℕ). orAll (table i f) ≡ orAll (table j f)) refl next n h)
     where

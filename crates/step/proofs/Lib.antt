@@ -4,6 +4,5 @@ pub mod Filling
 pub mod Sets
 pub mod Signed
 pub mod Words
-pub mod Lane
 pub mod Stored
 pub mod Meaning

@@ -52,18 +52,18 @@ module _ (kept : ℕ → Bool) (halves : List ℕ) where
         let rest : (2 * j + 1) % 2 ≡ 1 = omega arith in
         byte-of 0 d (2 * j + 1) ∙ rw (own (2 * j + 1), half, rest)
 
-    pub next : {l m : List ℕ} → Filled (byteOf kept halves 0 d) 64 d l (2 * j) → j < 32
-        → m ≡ cond (kept j) l (set (set l (2 * j) (getD halves j 0 % 256)) (2 * j + 1) (getD halves j 0 / 256 % 256))
-        → Filled (byteOf kept halves 0 d) 64 d m (2 * (j + 1))
-    next {l} {m} F h e =
-        let twice : 2 * (j + 1) ≡ 2 * j + 1 + 1 = omega arith in
-        rw (twice, e) (go (kept j) refl)
-      where
-        go : (t : Bool) → kept j ≡ t
-            → Filled (byteOf kept halves 0 d) 64 d (cond t l
-            (set (set l (2 * j) (getD halves j 0 % 256)) (2 * j + 1) (getD halves j 0 / 256 % 256))) (2 * j + 1 + 1)
-        go true k = same (same F (omega arith) (sym (rw k at even))) (omega arith) (sym (rw k at odd))
-        go false k = more (more F (omega arith) (sym (rw k at even))) (omega arith) (sym (rw k at odd))
+    module _ {l : List ℕ} (F : Filled (byteOf kept halves 0 d) 64 d l (2 * j)) (h : j < 32) where
+      twice : 2 * (j + 1) ≡ 2 * j + 1 + 1
+      twice = omega arith
+
+      -- the lane is left,
+      pub keeps : kept j ≡ true → Filled (byteOf kept halves 0 d) 64 d l (2 * (j + 1))
+      keeps k = rw twice (same (same F (omega arith) (sym (rw k at even))) (omega arith) (sym (rw k at odd)))
+
+      -- or stored
+      pub stores : kept j ≡ false → {m : List ℕ} → m ≡ set (set l (2 * j) (getD halves j 0 % 256)) (2 * j + 1) (getD halves j 0 / 256 % 256)
+          → Filled (byteOf kept halves 0 d) 64 d m (2 * (j + 1))
+      stores k e = rw (twice, e) (more (more F (omega arith) (sym (rw k at even))) (omega arith) (sym (rw k at odd)))
 
   left : (d : List ℕ) (k : ℕ) → kept (k / 2) ≡ true → getD d k 0 ≡ byteOf kept halves 0 d k
   left d k t = sym (byte-of 0 d k ∙ rw (own k, t))

@@ -16,7 +16,6 @@ use Rattle.machine.specs.declared.Answer.{Answer}
 use Rattle.machine.specs.declared.Located.{Located}
 use Rattle.machine.specs.declared.Located.the-variants as place
 use Rattle.machine.specs.declared.Environment.{Environment}
-use Rattle.machine.specs.declared.Element.{Element}
 use Rattle.machine.specs.State.{State, Stepped}
 use Rattle.machine.specs.Memory.{needsOutside}
 use Rattle.machine.specs.Lanes.{Sources, lanesOn, registerHalves, memoryHalves, gathered, elementAt, unmasked, recorded, raisesUnmasked}
@@ -53,10 +52,6 @@ resultsWhere on op e g =
       halves = lanesOn on (λ j. elementAt op e g j .value);
       flags = orAll (lanesOn on (λ j. elementAt op e g j .flags));
     }
-
--- of a lane that is off
-abbrev pub nothing : Element
-nothing = record { value = 0; flags = 0 }
 
 -- ---- the destination
 

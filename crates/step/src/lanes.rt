@@ -1,9 +1,8 @@
 // The arithmetic of the lanes (R2.1): 32 results by value, and all flags or-ed (R7.1).
 ghost use mathlib.Core.Path.{_≡_};
-ghost use mathlib.Core.Bool.{cond};
 ghost use Rattle.evex.specs.Bits.{isSet};
 ghost use Rattle.machine.specs.Lanes.{rounded, operated};
-ghost use Rattle.step.specs.Work.{nothing, resultsWhere};
+ghost use Rattle.step.specs.Work.{resultsWhere};
 use super::mask::end_of;
 use super::mask::has;
 use evex::Operation;
@@ -49,15 +48,6 @@ fn operate(operation: Operation, e: Environment, d: u16, f: u16, x: u16) -> Elem
     }
 }
 
-fn operate_if(is_on: bool, operation: Operation, e: Environment, d: u16, f: u16, x: u16) -> Element
-    ensures { λ r. ⌜ r ≡ cond «is_on» (operated operation e d f x) nothing ⌝ }
-{
-    if is_on {
-        return operate(operation, e, d, f, x);
-    }
-    Element { value: 0, flags: 0 }
-}
-
 pub(crate) fn all_lanes(
     on: u32,
     operation: Operation,
@@ -72,7 +62,10 @@ pub(crate) fn all_lanes(
     let mut flags = 0u8;
     let end = end_of(on);
     for j in 0..end {
-        let r = operate_if(has(on, j), operation, e, d[j], f[j], x[j]);
+        if !has(on, j) {
+            continue;
+        }
+        let r = operate(operation, e, d[j], f[j], x[j]);
         halves[j] = r.value;
         flags = flags | r.flags;
     }

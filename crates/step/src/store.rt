@@ -1,6 +1,5 @@
 // The destination (R5.9): the lanes that are not kept are written, with 0 where they are off; the others are left in place.
 ghost use mathlib.Core.Path.{_≡_};
-ghost use mathlib.Core.Bool.{cond};
 ghost use Prim.Native.Nat.{_+_, _*_, _/_, _%_, _<_};
 ghost use lib.ListN.{length, set};
 ghost use Rattle.evex.specs.Bits.{isSet};
@@ -31,19 +30,6 @@ fn store_half(register: &mut [u8], half: u16, j: usize)
     register[at + 1] = high_byte(half);
 }
 
-fn store_lane(register: &mut [u8], is_kept: bool, half: u16, j: usize)
-    requires { ⌜ (length (now register) ≡ 64) × (j < 32) ⌝ }
-    ensures { λ _. ⌜
-        now (register .exit)
-        ≡ cond «is_kept» (now (register .entry)) (set (set (now (register .entry)) (2 * j) (half % 256)) (2 * j + 1) (half / 256 % 256))
-        ⌝ }
-{
-    if is_kept {
-        return;
-    }
-    store_half(register, half, j);
-}
-
 // No lane is kept.
 fn store_all(register: &mut [u8], halves: [u16; 32])
     requires { ⌜ length (now register) ≡ 64 ⌝ }
@@ -61,7 +47,10 @@ fn store_some(register: &mut [u8], kept: u32, halves: [u16; 32])
 {
     let end = end_of(kept ^ u32::MAX);
     for j in 0..end {
-        store_lane(register, has(kept, j), halves[j], j);
+        if has(kept, j) {
+            continue;
+        }
+        store_half(register, halves[j], j);
     }
 }
 

@@ -1,15 +1,15 @@
 -- `step::lanes::all_lanes` meets its contract: the loop fills the results lane by lane, and or-s the flags; no lane is on behind them.
-use Prim.Native.Nat.{_-_}
+use Prim.Native.Nat.{_-_, _<_}
 use mathlib.Core.Path.{refl, _∙_, sym}
 use mathlib.Core.Bool.{cond}
 use native.Mathlib.Nat.{le-trans}
 use native.Mathlib.Omega.{arith}
+use borrow.Author.Tests.{not-true, not-false}
 use lib.ListN.{getD-replicate}
 use Rattle.evex.specs.Bits.{isSet}
-use Rattle.machine.specs.Lanes.{Sources, elementAt}
+use Rattle.machine.specs.Lanes.{elementAt}
 use Rattle.step.specs.Work.{resultsWhere}
-use Rattle.step.proofs.Filling.{Filled, none, more, all, Ored, or-none, or-more, or-all}
-use Rattle.step.proofs.Lane.{value-if, flags-if}
+use Rattle.step.proofs.Filling.{Filled, none, more, same, all, Ored, or-none, or-more, or-same, or-all}
 use Rattle.step.proofs.Sets.{bit-above}
 use borrow.Author.Needs.{needs}
 use Rattle.step.proofs.lanes.all_lanes.Statement.{statement}
@@ -33,49 +33,58 @@ loop-holds c = (none refl, or-none)
 has-requires : tie.Need-has-requires Inv-loop μ-loop
 has-requires c κs = omega (arith, c .before .before .end-of .ensures .1)
 
-mul-operate-if : tie.Need-mul-operate-if Inv-loop μ-loop
-mul-operate-if c = omega (arith, c .before .before .before .end-of .ensures .1)
-
-array-read-operate-if : tie.Need-array-read-operate-if Inv-loop μ-loop
-array-read-operate-if c = omega (arith, c .before .before .before .end-of .ensures .1)
-
-mul-operate-if-2 : tie.Need-mul-operate-if-2 Inv-loop μ-loop
-mul-operate-if-2 c = omega (arith, c .before .before .before .end-of .ensures .1)
-
-array-read-operate-if-2 : tie.Need-array-read-operate-if-2 Inv-loop μ-loop
-array-read-operate-if-2 c = omega (arith, c .before .before .before .end-of .ensures .1)
-
-mul-operate-if-3 : tie.Need-mul-operate-if-3 Inv-loop μ-loop
-mul-operate-if-3 c = omega (arith, c .before .before .before .end-of .ensures .1)
-
-array-read-operate-if-3 : tie.Need-array-read-operate-if-3 Inv-loop μ-loop
-array-read-operate-if-3 c = omega (arith, c .before .before .before .end-of .ensures .1)
-
-operate-if-requires : tie.Need-operate-if-requires Inv-loop μ-loop
-operate-if-requires c κs = tt
-
-mul-halves : tie.Need-mul-halves Inv-loop μ-loop
-mul-halves c = omega (arith, c .before .before .before .before .end-of .ensures .1)
-
-array-write-halves : tie.Need-array-write-halves Inv-loop μ-loop
-array-write-halves c = omega (arith, c .before .before .before .before .end-of .ensures .1)
-
 add-j : tie.Need-add-j Inv-loop μ-loop
-add-j c = omega (arith, c .before .before .before .before .before .end-of .ensures .1)
+add-j c = omega (arith, c .before .before .before .before .end-of .ensures .1)
 
 loop-less : tie.Need-loop-less Inv-loop μ-loop
 loop-less c = omega arith
 
 loop-again : tie.Need-loop-again Inv-loop μ-loop
 loop-again c =
-    let turn : tie.At-loop Inv-loop μ-loop = c .before .before .before .before in
-    let args = turn .before .before .args in
-    let t = isSet (args .on) (turn .loop .j) in
-    let sources : Sources = record { destination = args .t4; first = args .t5; second = args .t6 } in
-    let element = elementAt (args .operation) (args .e) sources (turn .loop .j) in (
-      more (turn .loop .inv .0) (omega (arith, turn .before .end-of .ensures .1))
-          (rw (c .before .operate-if .ensures, c .before .before .has .ensures) (value-if t element)),
-      or-more (turn .loop .inv .1) (rw (c .before .operate-if .ensures, c .before .before .has .ensures) (flags-if t element)),
+    let turn : tie.At-loop Inv-loop μ-loop = c .before .before .before in
+    let below : turn .loop .j < 32 = omega (arith, turn .before .end-of .ensures .1) in
+    let off = sym (c .before .has .ensures) ∙ not-true _ (c .if1 .taken) in
+    (same (turn .loop .inv .0) below (getD-replicate 32 (turn .loop .j) 0 0 below ∙ sym (rw off)), or-same (turn .loop .inv .1) (rw off))
+
+mul-operate : tie.Need-mul-operate Inv-loop μ-loop
+mul-operate c = omega (arith, c .before .before .before .before .end-of .ensures .1)
+
+array-read-operate : tie.Need-array-read-operate Inv-loop μ-loop
+array-read-operate c = omega (arith, c .before .before .before .before .end-of .ensures .1)
+
+mul-operate-2 : tie.Need-mul-operate-2 Inv-loop μ-loop
+mul-operate-2 c = omega (arith, c .before .before .before .before .end-of .ensures .1)
+
+array-read-operate-2 : tie.Need-array-read-operate-2 Inv-loop μ-loop
+array-read-operate-2 c = omega (arith, c .before .before .before .before .end-of .ensures .1)
+
+mul-operate-3 : tie.Need-mul-operate-3 Inv-loop μ-loop
+mul-operate-3 c = omega (arith, c .before .before .before .before .end-of .ensures .1)
+
+array-read-operate-3 : tie.Need-array-read-operate-3 Inv-loop μ-loop
+array-read-operate-3 c = omega (arith, c .before .before .before .before .end-of .ensures .1)
+
+operate-requires : tie.Need-operate-requires Inv-loop μ-loop
+operate-requires c κs = tt
+
+mul-halves : tie.Need-mul-halves Inv-loop μ-loop
+mul-halves c = omega (arith, c .before .before .before .before .before .end-of .ensures .1)
+
+array-write-halves : tie.Need-array-write-halves Inv-loop μ-loop
+array-write-halves c = omega (arith, c .before .before .before .before .before .end-of .ensures .1)
+
+add-j-2 : tie.Need-add-j-2 Inv-loop μ-loop
+add-j-2 c = omega (arith, c .before .before .before .before .before .before .end-of .ensures .1)
+
+loop-less-2 : tie.Need-loop-less-2 Inv-loop μ-loop
+loop-less-2 c = omega arith
+
+loop-again-2 : tie.Need-loop-again-2 Inv-loop μ-loop
+loop-again-2 c =
+    let turn : tie.At-loop Inv-loop μ-loop = c .before .before .before .before .before in
+    let on = sym (c .before .before .before .has .ensures) ∙ not-false _ (c .before .before .if1 .left) in (
+      more (turn .loop .inv .0) (omega (arith, turn .before .end-of .ensures .1)) (rw (on, c .before .operate .ensures)),
+      or-more (turn .loop .inv .1) (rw (on, c .before .operate .ensures)),
     )
 
 returns : tie.Need-returns Inv-loop μ-loop
@@ -101,16 +110,19 @@ all-lanes-spec =
     end-of-requires
     loop-holds
     has-requires
-    mul-operate-if
-    array-read-operate-if
-    mul-operate-if-2
-    array-read-operate-if-2
-    mul-operate-if-3
-    array-read-operate-if-3
-    operate-if-requires
-    mul-halves
-    array-write-halves
     add-j
     loop-less
     loop-again
+    mul-operate
+    array-read-operate
+    mul-operate-2
+    array-read-operate-2
+    mul-operate-3
+    array-read-operate-3
+    operate-requires
+    mul-halves
+    array-write-halves
+    add-j-2
+    loop-less-2
+    loop-again-2
     returns)

@@ -6,7 +6,7 @@ use Rattle.evex.specs.Bits.{isSet}
 use Rattle.machine.specs.Lanes.{newRegister}
 use Rattle.step.proofs.Filling.{Filled, none, all}
 use Rattle.step.proofs.Sets.{no-bit}
-use Rattle.step.proofs.Stored.{byteOf, next}
+use Rattle.step.proofs.Stored.{byteOf, stores}
 use Rattle.step.proofs.store.store_all.Statement.{statement}
 use Rattle.step.proofs.store.store_all.Tie as tie
 
@@ -39,8 +39,8 @@ loop-again c =
     let stored : tie.After-store-half Inv-loop μ-loop = c .before .before in
     let turn : tie.At-loop Inv-loop μ-loop = stored .before .before .before in
     let args = turn .before .before .args in
-    next (isSet 0) (args .t2) (args .register .now) (turn .loop .j) (turn .loop .inv) (omega arith)
-    (rw (no-bit (turn .loop .j)) (stored .store-half .ensures))
+    stores (isSet 0) (args .t2) (args .register .now) (turn .loop .j) (turn .loop .inv) (omega arith) (no-bit (turn .loop .j))
+    (stored .store-half .ensures)
 
 same-length : tie.Need-same-length Inv-loop μ-loop
 same-length c = c .before .loop .inv .size ∙ sym (c .before .before .before .pre)

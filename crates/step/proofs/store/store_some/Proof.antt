@@ -6,7 +6,7 @@ use native.Mathlib.Omega.{arith}
 use Rattle.evex.specs.Bits.{isSet}
 use Rattle.machine.specs.Lanes.{newRegister}
 use Rattle.step.proofs.Filling.{Filled, none, all}
-use Rattle.step.proofs.Stored.{byteOf, next, rest-left}
+use Rattle.step.proofs.Stored.{byteOf, keeps, stores, rest-left}
 use Rattle.step.proofs.store.store_some.Statement.{statement}
 use Rattle.step.proofs.store.store_some.Tie as tie
 
@@ -23,32 +23,47 @@ loop-holds : tie.Need-loop-holds Inv-loop μ-loop
 loop-holds c = none (c .before .before .pre)
 
 has-requires : tie.Need-has-requires Inv-loop μ-loop
-has-requires c κs = omega (arith, c .before .before .before .end-of .ensures .1)
-
-mul-store-lane : tie.Need-mul-store-lane Inv-loop μ-loop
-mul-store-lane c = omega (arith, c .before .before .before .before .end-of .ensures .1)
-
-array-read-store-lane : tie.Need-array-read-store-lane Inv-loop μ-loop
-array-read-store-lane c = omega (arith, c .before .before .before .before .end-of .ensures .1)
-
-store-lane-requires : tie.Need-store-lane-requires Inv-loop μ-loop
-store-lane-requires c κs =
-    (c .before .before .before .loop .inv .size, omega (arith, c .before .before .before .before .end-of .ensures .1))
+has-requires c κs = omega (arith, c .before .before .end-of .ensures .1)
 
 add-j : tie.Need-add-j Inv-loop μ-loop
-add-j c = omega (arith, c .before .before .before .before .before .before .before .end-of .ensures .1)
+add-j c = omega (arith, c .before .before .before .before .end-of .ensures .1)
 
 loop-less : tie.Need-loop-less Inv-loop μ-loop
 loop-less c = omega arith
 
 loop-again : tie.Need-loop-again Inv-loop μ-loop
 loop-again c =
-    let stored : tie.After-store-lane Inv-loop μ-loop = c .before .before in
-    let turn : tie.At-loop Inv-loop μ-loop = stored .before .before .before .before in
+    let turn : tie.At-loop Inv-loop μ-loop = c .before .before .before in
     let args = turn .before .before .before .args in
-    next (isSet (args .kept)) (args .t3) (args .register .now) (turn .loop .j) (turn .loop .inv)
+    keeps (isSet (args .kept)) (args .t3) (args .register .now) (turn .loop .j) (turn .loop .inv)
     (omega (arith, turn .before .end-of .ensures .1))
-    (rw (stored .before .has .ensures) at (stored .store-lane .ensures))
+    (sym (c .before .has .ensures) ∙ c .if1 .taken)
+
+mul-store-half : tie.Need-mul-store-half Inv-loop μ-loop
+mul-store-half c = omega (arith, c .before .before .before .before .before .end-of .ensures .1)
+
+array-read-store-half : tie.Need-array-read-store-half Inv-loop μ-loop
+array-read-store-half c = omega (arith, c .before .before .before .before .before .end-of .ensures .1)
+
+store-half-requires : tie.Need-store-half-requires Inv-loop μ-loop
+store-half-requires c κs =
+    (c .before .before .before .before .loop .inv .size, omega (arith, c .before .before .before .before .before .end-of .ensures .1))
+
+add-j-2 : tie.Need-add-j-2 Inv-loop μ-loop
+add-j-2 c = omega (arith, c .before .before .before .before .before .before .before .before .end-of .ensures .1)
+
+loop-less-2 : tie.Need-loop-less-2 Inv-loop μ-loop
+loop-less-2 c = omega arith
+
+loop-again-2 : tie.Need-loop-again-2 Inv-loop μ-loop
+loop-again-2 c =
+    let stored : tie.After-store-half Inv-loop μ-loop = c .before .before in
+    let turn : tie.At-loop Inv-loop μ-loop = stored .before .before .before .before .before in
+    let args = turn .before .before .before .args in
+    stores (isSet (args .kept)) (args .t3) (args .register .now) (turn .loop .j) (turn .loop .inv)
+    (omega (arith, turn .before .end-of .ensures .1))
+    (sym (stored .before .before .before .has .ensures) ∙ stored .before .before .if1 .left)
+    (stored .store-half .ensures)
 
 same-length : tie.Need-same-length Inv-loop μ-loop
 same-length c = c .before .loop .inv .size ∙ sym (c .before .before .before .before .pre)
@@ -70,11 +85,14 @@ store-some-spec =
     end-of-requires
     loop-holds
     has-requires
-    mul-store-lane
-    array-read-store-lane
-    store-lane-requires
     add-j
     loop-less
     loop-again
+    mul-store-half
+    array-read-store-half
+    store-half-requires
+    add-j-2
+    loop-less-2
+    loop-again-2
     same-length
     returns)
