@@ -65,6 +65,7 @@ impl Lanes {
 /// What a row executes.
 struct Work {
     lanes: Lanes,
+    bytes: usize,
     codes: Vec<Vec<u8>>,
     destinations: Vec<[u8; REGISTER_SIZE]>,
     machine: Machine,
@@ -73,22 +74,23 @@ struct Work {
 
 impl Work {
     /// Instructions with destination 0 and sources drawn from the other registers, or memory.
-    fn of(change: impl Fn(&mut Encoding), listed: &Listed, lanes: Lanes, mask: u64) -> Work {
+    fn of(listed: &Listed, lanes: Lanes, kind: &Kind) -> Work {
         let mut random = Random::seeded(6);
         let mut codes = Vec::new();
         for _ in 0..CODES {
             let [first, second] = [0; 2].map(|_| random.within(1, 31) as u8);
             let first = if listed.operands.len() > 1 { first } else { 0 };
             let mut encoding = Encoding::registers(listed, 0, first, second);
-            change(&mut encoding);
+            (kind.change)(&mut encoding);
             codes.push(encoding.bytes());
         }
         let mut machine = Machine::blank();
         machine.vectors = lanes.bytes(&mut random, 1024);
-        machine.masks[1] = mask;
+        machine.masks[1] = kind.mask;
         let filled = |_| lanes.bytes(&mut random, 32).try_into().expect("64 bytes");
         Work {
             lanes,
+            bytes: kind.bytes,
             codes,
             destinations: (0..CODES).map(filled).collect(),
             machine,
@@ -104,7 +106,8 @@ impl Work {
             machine.control = self.lanes.control(turn);
             // An even address, for memory forms.
             machine.general[3] = 2 * turn as u64;
-            let answer = step(&mut machine, &self.codes[turn], &self.memory);
+            let end = self.memory.len().min(2 * turn + self.bytes);
+            let answer = step(&mut machine, &self.codes[turn], &self.memory[..end]);
             let words = machine.vectors[..REGISTER_SIZE].chunks_exact(8);
             let sum = words.fold(0, |sum: u64, word| {
                 sum.wrapping_add(u64::from_le_bytes(word.try_into().expect("8 bytes")))
@@ -115,16 +118,26 @@ impl Work {
     }
 }
 
-/// A row's name, its lanes, mask register k1, and what it changes of a register form with 32 lanes.
-type Kind = (&'static str, Lanes, u64, fn(&mut Encoding));
+/// What a row's instructions are, beside a register form with 32 lanes.
+struct Kind {
+    name: &'static str,
+    /// Mask register k1.
+    mask: u64,
+    /// So many bytes of memory from the address on.
+    bytes: usize,
+    change: fn(&mut Encoding),
+}
 
-fn row(listed: &Listed, kind: Kind, calls: usize) -> Row {
-    let (name, lanes, mask, change) = kind;
-    let work = || Work::of(change, listed, lanes, mask);
+fn row(listed: &Listed, lanes: Lanes, kind: &Kind, calls: usize) -> Row {
+    let name = match lanes {
+        Lanes::Random => kind.name.to_string(),
+        Lanes::Tame | Lanes::TamePositive => format!("{}, tame", kind.name),
+    };
+    let work = || Work::of(listed, lanes, kind);
     let (by_library, by_plain) = (work(), work());
     Row::of(
         listed.name,
-        name,
+        &name,
         [
             Box::new(move || by_library.pass(library::step, calls)),
             Box::new(move || by_plain.pass(plain_step::step, calls)),
@@ -132,30 +145,53 @@ fn row(listed: &Listed, kind: Kind, calls: usize) -> Row {
     )
 }
 
-const RANDOM: Kind = ("32 lanes", Lanes::Random, 0, |_| ());
-const TAME: Kind = ("32 lanes, tame", Lanes::Tame, 0, |_| ());
-const TAME_ROOT: Kind = ("32 lanes, tame", Lanes::TamePositive, 0, |_| ());
+const fn masked(name: &'static str, mask: u64) -> Kind {
+    Kind {
+        name,
+        mask,
+        bytes: usize::MAX / 2,
+        change: |e| e.mask = 1,
+    }
+}
+
+const fn changed(name: &'static str, change: fn(&mut Encoding)) -> Kind {
+    Kind {
+        name,
+        mask: 0,
+        bytes: usize::MAX / 2,
+        change,
+    }
+}
+
+/// Memory at register 3, whose value the rows change from step to step.
+fn from_memory(e: &mut Encoding) {
+    (e.mode, e.rm, e.b) = (0, 3, 0);
+}
+
+const WHOLE: Kind = changed("32 lanes", |_| ());
 
 /// How the time goes with the lanes that are on, and with memory.
-const LANES_ON: [Kind; 9] = [
-    ("8 lanes", Lanes::Random, 0, |e| e.length = LANES_8),
-    ("16 lanes", Lanes::Random, 0, |e| e.length = LANES_16),
-    ("32 lanes, mask of 0", Lanes::Random, 0, |e| e.mask = 1),
-    ("32 lanes, mask of 1", Lanes::Random, 1 << 9, |e| e.mask = 1),
-    ("32 lanes, mask of 4", Lanes::Random, 0x8001_0401, |e| {
-        e.mask = 1;
-    }),
-    ("32 lanes, mask of 16", Lanes::Random, 0x9C5A_A563, |e| {
-        e.mask = 1;
-    }),
-    ("32 lanes, mask of 32", Lanes::Random, u64::MAX, |e| {
-        e.mask = 1;
-    }),
-    ("32 lanes, memory", Lanes::Random, 0, |e| {
-        (e.mode, e.rm, e.b) = (0, 3, 0);
-    }),
-    ("32 lanes, broadcast", Lanes::Random, 0, |e| {
-        (e.mode, e.rm, e.b, e.extra, e.length) = (0, 3, 0, 1, LANES_32);
+const LANES_ON: [Kind; 10] = [
+    changed("8 lanes", |e| e.length = LANES_8),
+    changed("16 lanes", |e| e.length = LANES_16),
+    masked("mask of 0", 0),
+    masked("mask of 1", 1 << 9),
+    masked("mask of 4", 0x8001_0401),
+    masked("mask of 16", 0x9C5A_A563),
+    masked("mask of 32", u64::MAX),
+    changed("memory", from_memory),
+    Kind {
+        name: "31, memory's end",
+        mask: 0x7FFF_FFFF,
+        bytes: 62,
+        change: |e| {
+            from_memory(e);
+            e.mask = 1;
+        },
+    },
+    changed("broadcast", |e| {
+        from_memory(e);
+        (e.extra, e.length) = (1, LANES_32);
     }),
 ];
 
@@ -164,12 +200,18 @@ pub fn rows(rounds: usize) -> Vec<Row> {
     let mut rows = Vec::new();
     for listed in &LIST {
         let is_root = listed.operands.len() == 1;
-        rows.push(row(listed, RANDOM, calls));
-        rows.push(row(listed, if is_root { TAME_ROOT } else { TAME }, calls));
+        let tame = if is_root {
+            Lanes::TamePositive
+        } else {
+            Lanes::Tame
+        };
+        rows.push(row(listed, Lanes::Random, &WHOLE, calls));
+        rows.push(row(listed, tame, &WHOLE, calls));
     }
     let multiply = &LIST[1];
-    for kind in LANES_ON {
-        rows.push(row(multiply, kind, calls));
+    for kind in &LANES_ON {
+        rows.push(row(multiply, Lanes::Random, kind, calls));
+        rows.push(row(multiply, Lanes::Tame, kind, calls));
     }
     rows
 }

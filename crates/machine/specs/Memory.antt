@@ -60,7 +60,7 @@ bytesAt (place.Words at broadcast) j = wordBytes (wordFrom at broadcast j)
 
 -- R5.7: one of those that the lanes that are on need lies outside a memory of this length (R1.8)
 unfoldable pub outside : (ℕ → Bool) → ℕ → Located → Bool
-outside on memoryLength operand = some (λ j. on j && some (λ a. leb memoryLength a) (bytesAt operand j)) (table 32 (λ j. j))
+outside on memoryLength second = some (λ j. on j && some (λ a. leb memoryLength a) (bytesAt second j)) (table 32 (λ j. j))
 
 -- ---- elements
 

@@ -1,15 +1,18 @@
--- A lane that is on reads both bytes of its word inside memory, where no word was found outside.
+-- A lane that is on reads both bytes of its word inside memory, where no word was found outside; and when none is.
 -- Assumes nothing.
-use Prim.Native.Nat.{ℕ, _+_, _%_, _^_, _<_}
+use Prim.Native.Nat.{ℕ, _+_, _*_, _%_, _^_, _<_, _≤_}
 use mathlib.Core.Path.{_≡_, refl}
-use mathlib.Core.Bool.{Bool, true, false, _&&_, _||_, true≢false}
+use mathlib.Core.Bool.{Bool, true, false, cond, _&&_, _||_, true≢false, and-false}
+use native.Mathlib.Decide.{decLt}
 use native.Mathlib.Omega.{arith}
-use borrow.Author.Tests.{leb-false}
+use borrow.Author.Tests.{leb-false, lt-leb}
 use lib.Dec.{leb}
 use Rattle.lists.specs.Lists.{some}
 use Rattle.machine.specs.Memory.{wordFrom, wordBytes, outside}
 use Rattle.machine.specs.declared.Located.the-variants.{Words}
-use Rattle.step.proofs.Filling.{nowhere}
+use Rattle.evex.specs.Bits.{isSet}
+use Rattle.step.proofs.Filling.{nowhere, found-none, found-all}
+use Rattle.step.proofs.Sets.{bit-above}
 
 neither : (a b : Bool) → (a || b) ≡ false → (a ≡ false) × (b ≡ false)
 neither true b e = absurd (true≢false e)
@@ -32,3 +35,25 @@ unfolding outside
 inside on length at broadcast j l e h t =
     word-inside length (wordFrom at broadcast j) l
     (rw t at (nowhere (λ k. on k && some (λ a. leb length a) (wordBytes (wordFrom at broadcast k))) 32 j e h))
+
+-- where all words up to the last are inside, no lane that is on reads outside
+pub none-outside : (on length at : ℕ) (broadcast : Bool) (end : ℕ) → on < 2 ^ end → length < 2 ^ 64 → at + 2 * cond broadcast 1 end ≤ length
+    → false ≡ outside (isSet on) length (Words at broadcast)
+unfolding outside
+none-outside on length at broadcast end fits l h = found-all found-none (λ k _. at-each k)
+  where
+    fine : (w : ℕ) → w + 1 < length → some (λ a. leb length a) (wordBytes w) ≡ false
+    fine w k =
+        let plain : (w + 1) % 2 ^ 64 ≡ w + 1 = omega arith in
+        rw (plain, lt-leb length w (omega arith), lt-leb length (w + 1) k)
+
+    below : (broadcast : Bool) → at + 2 * cond broadcast 1 end ≤ length → (k : ℕ) → k < end → wordFrom at broadcast k + 1 < length
+    below true h k m = omega arith
+    below false h k m = omega arith
+
+    at-each : (k : ℕ) → (isSet on k && some (λ a. leb length a) (wordBytes (wordFrom at broadcast k))) ≡ false
+    at-each k =
+        elim (decLt k end) [
+          | yes m ↦ rw (fine (wordFrom at broadcast k) (below broadcast h k m)) (and-false (isSet on k))
+          | no m ↦ let g : end ≤ k = omega arith in rw (bit-above on end k fits g)
+        ]

@@ -1,7 +1,7 @@
 // Addresses (R5.4) and the words at them (R5.5, R5.7).
 ghost use mathlib.Core.Path.{_≡_};
-ghost use Prim.Native.Nat.{_%_, _^_, _<_};
-ghost use mathlib.Core.Bool.{_&&_};
+ghost use Prim.Native.Nat.{_+_, _*_, _%_, _^_, _<_, _≤_};
+ghost use mathlib.Core.Bool.{_&&_, cond};
 ghost use lib.Dec.{leb};
 ghost use Rattle.evex.specs.Bits.{isSet};
 ghost use Rattle.evex.proofs.Bounds.{BaseIn, IndexIn, OperandIn};
@@ -88,11 +88,36 @@ fn lane_outside(on: u32, length: u64, at: u64, broadcast: bool, j: usize) -> boo
     has(on, j) & word_outside(length, word_from(at, broadcast, j))
 }
 
+// So many words from an address on are inside a memory of this length.
+fn words_inside(length: u64, at: u64, words: usize) -> bool
+    requires { ⌜ words ≤ 32 ⌝ }
+    ensures { λ r. ⌜ r ≡ leb (at + 2 * words) length ⌝ }
+{
+    if length < at {
+        return false;
+    }
+    (2 * words) as u64 <= length - at
+}
+
+// The words that lanes below `end` read stand behind one another; under broadcast it is one word.
+fn words_below(broadcast: bool, end: usize) -> usize
+    ensures { λ r. ⌜ r ≡ cond broadcast 1 end ⌝ }
+{
+    if broadcast {
+        return 1;
+    }
+    end
+}
+
+// Where all words up to the last are inside, no lane needs a look.
 fn words_outside(on: u32, length: u64, at: u64, broadcast: bool) -> bool
     ensures { λ r. ⌜ r ≡ outside (isSet on) length (Words at broadcast) ⌝ }
 {
-    let mut found = false;
     let end = end_of(on);
+    if words_inside(length, at, words_below(broadcast, end)) {
+        return false;
+    }
+    let mut found = false;
     for j in 0..end {
         found = found | lane_outside(on, length, at, broadcast, j);
     }
