@@ -44,7 +44,7 @@ impl Row {
     fn print(&self) {
         let [library, plain] = self.least;
         let (name, kind, ratio) = (&self.name, &self.kind, library / plain);
-        println!("{name:<20} {kind:<24} {library:>10.1} {plain:>10.1} {ratio:>8.2}");
+        println!("{name:<20} {kind:<29} {library:>10.1} {plain:>10.1} {ratio:>8.2}");
     }
 }
 
@@ -75,7 +75,7 @@ fn main() {
     println!("tame halves: 2 to the -4 to 2 to the 4, in mode 0 alone; else modes mixed;");
     println!("{}", steps::SETTING);
     println!(
-        "{:<20} {:<24} {:>10} {:>10} {:>8}",
+        "{:<20} {:<29} {:>10} {:>10} {:>8}",
         "call", "on", "library", "plain", "ratio"
     );
     rows.iter().for_each(Row::print);

@@ -65,7 +65,7 @@ impl Lanes {
 /// What a row executes.
 struct Work {
     lanes: Lanes,
-    bytes: usize,
+    memory_end: Option<usize>,
     codes: Vec<Vec<u8>>,
     destinations: Vec<[u8; REGISTER_SIZE]>,
     machine: Machine,
@@ -90,7 +90,7 @@ impl Work {
         let filled = |_| lanes.bytes(&mut random, 32).try_into().expect("64 bytes");
         Work {
             lanes,
-            bytes: kind.bytes,
+            memory_end: kind.memory_end,
             codes,
             destinations: (0..CODES).map(filled).collect(),
             machine,
@@ -106,8 +106,9 @@ impl Work {
             machine.control = self.lanes.control(turn);
             // An even address, for memory forms.
             machine.general[3] = 2 * turn as u64;
-            let end = self.memory.len().min(2 * turn + self.bytes);
-            let answer = step(&mut machine, &self.codes[turn], &self.memory[..end]);
+            let end = self.memory_end.map(|bytes| 2 * turn + bytes);
+            let memory = &self.memory[..end.unwrap_or(self.memory.len())];
+            let answer = step(&mut machine, &self.codes[turn], memory);
             let words = machine.vectors[..REGISTER_SIZE].chunks_exact(8);
             let sum = words.fold(0, |sum: u64, word| {
                 sum.wrapping_add(u64::from_le_bytes(word.try_into().expect("8 bytes")))
@@ -118,13 +119,13 @@ impl Work {
     }
 }
 
-/// What a row's instructions are, beside a register form with 32 lanes.
+/// How a row's instructions differ from a register form with 32 lanes.
 struct Kind {
     name: &'static str,
     /// Mask register k1.
     mask: u64,
-    /// So many bytes of memory from the address on.
-    bytes: usize,
+    /// Memory ends so many bytes behind the address; else far behind it.
+    memory_end: Option<usize>,
     change: fn(&mut Encoding),
 }
 
@@ -149,7 +150,7 @@ const fn masked(name: &'static str, mask: u64) -> Kind {
     Kind {
         name,
         mask,
-        bytes: usize::MAX / 2,
+        memory_end: None,
         change: |e| e.mask = 1,
     }
 }
@@ -158,7 +159,7 @@ const fn changed(name: &'static str, change: fn(&mut Encoding)) -> Kind {
     Kind {
         name,
         mask: 0,
-        bytes: usize::MAX / 2,
+        memory_end: None,
         change,
     }
 }
@@ -174,22 +175,23 @@ const WHOLE: Kind = changed("32 lanes", |_| ());
 const LANES_ON: [Kind; 10] = [
     changed("8 lanes", |e| e.length = LANES_8),
     changed("16 lanes", |e| e.length = LANES_16),
-    masked("mask of 0", 0),
-    masked("mask of 1", 1 << 9),
-    masked("mask of 4", 0x8001_0401),
-    masked("mask of 16", 0x9C5A_A563),
-    masked("mask of 32", u64::MAX),
-    changed("memory", from_memory),
+    masked("32 lanes, mask of 0", 0),
+    masked("32 lanes, mask of 1", 1 << 9),
+    masked("32 lanes, mask of 4", 0x8001_0401),
+    masked("32 lanes, mask of 16", 0x9C5A_A563),
+    masked("32 lanes, mask of 32", u64::MAX),
+    changed("32 lanes, memory", from_memory),
+    // The last lane is off, and its word would lie outside.
     Kind {
-        name: "31, memory's end",
+        name: "31 lanes, memory's end",
         mask: 0x7FFF_FFFF,
-        bytes: 62,
+        memory_end: Some(62),
         change: |e| {
             from_memory(e);
             e.mask = 1;
         },
     },
-    changed("broadcast", |e| {
+    changed("32 lanes, broadcast", |e| {
         from_memory(e);
         (e.extra, e.length) = (1, LANES_32);
     }),
@@ -200,13 +202,13 @@ pub fn rows(rounds: usize) -> Vec<Row> {
     let mut rows = Vec::new();
     for listed in &LIST {
         let is_root = listed.operands.len() == 1;
-        let tame = if is_root {
+        let as_embeddings = if is_root {
             Lanes::TamePositive
         } else {
             Lanes::Tame
         };
         rows.push(row(listed, Lanes::Random, &WHOLE, calls));
-        rows.push(row(listed, tame, &WHOLE, calls));
+        rows.push(row(listed, as_embeddings, &WHOLE, calls));
     }
     let multiply = &LIST[1];
     for kind in &LANES_ON {

@@ -15,7 +15,6 @@ use Rattle.evex.specs.Bits.{byte}
 use Rattle.evex.specs.Fields.{headOf, takesSib, listed, hasSib, displacementAt, displacementSize, size, displacementOf, instruction}
 use Rattle.evex.specs.Decode.{noBytes, wrongFirstByte, fewerThanSixBytes, reservedForms, bytesMissing, headConditions, rowConditions}
 use Rattle.evex.specs.Decode.{refusals, fields, decoded}
-use Rattle.evex.specs.declared.head.Head.{Head}
 use Rattle.evex.specs.declared.list.Row.{Row}
 use Rattle.evex.specs.declared.list.Listed.{Listed}
 use Rattle.evex.specs.declared.list.Listed.the-variants.{Found, Nothing}
@@ -152,9 +151,13 @@ module _ (code rest : List ℕ) (row : Row) (whole : size (headOf code) row ≤ 
         le-ltb (length code) n whole,
       )
 
+  same-instruction : instruction (headOf code) row other ≡ instruction (headOf code) row code
+  unfolding instruction
+  same-instruction = rw same-displacement
+
   same-decoded : listed (headOf code) ≡ Found row → decoded other ≡ decoded code
   unfolding decoded
-  same-decoded found = rw (same-refusals found, same-head, found, same-displacement)
+  same-decoded found = rw (same-refusals found, same-head, found, same-instruction)
 
 pub after : (code rest : List ℕ) {i : Instruction} → decoded code ≡ Fields i → decoded (take (i .size) code ++ rest) ≡ Fields i
 after code rest e =

@@ -13,7 +13,7 @@ use Rattle.lists.proofs.Tests.{either}
 use Rattle.evex.specs.Bits.{bits}
 use Rattle.evex.specs.List.{shape}
 use Rattle.evex.specs.Fields.{headOf, lengthBits, modBits, rm, listed, destination, first, registerForm}
-use Rattle.evex.specs.Fields.{fullLength, vectorLanes, elements, hasSib, baseBits, indexNumber, indexOf, noBase, baseOf, displacementAt}
+use Rattle.evex.specs.Fields.{registerB, vectorLanes, elements, hasSib, baseBits, indexNumber, indexOf, noBase, baseOf, displacementAt}
 use Rattle.evex.specs.Fields.{displacementSize, size, displacementOf, second, instruction}
 use Rattle.evex.specs.Decode.{refusals, fields, decoded}
 use Rattle.evex.specs.declared.head.Head.{Head}
@@ -68,7 +68,7 @@ module _ (h : Head) where
   lanes-in : vectorLanes h ≤ 32
   unfolding vectorLanes
   lanes-in =
-      at-most 32 (fullLength h) 32 _ (lit≤ tt)
+      at-most 32 (registerB h) 32 _ (lit≤ tt)
       (at-most 32 (eqb (lengthBits h) 0) 8 _ (lit≤ tt) (at-most 32 (eqb (lengthBits h) 1) 16 32 (lit≤ tt) (lit≤ tt)))
 
   destination-in : destination h < 32
@@ -113,15 +113,15 @@ module _ (h : Head) (row : Row) where
   unfolding size displacementAt
   size-least = le-trans (either (λ n. 6 ≤ n) (hasSib h) (lit≤ tt) (lit≤ tt)) (le-add-right _ (displacementSize h))
 
-  instruction-in : (d : ℤ) → Bounds (instruction h row d)
+  instruction-in : (code : List ℕ) → Bounds (instruction h row code)
   unfolding instruction
-  instruction-in d =
+  instruction-in code =
       record {
         elements = elements-in;
         mask = omega arith;
         destination = destination-in h;
         first = first-in;
-        second = second-in h d;
+        second = second-in h (displacementOf h row code);
         least = size-least;
         size = size-in;
       }
@@ -133,7 +133,7 @@ DecodedIn (Fields i) = Bounds i
 DecodedIn (Refused r) = Unit {0}
 
 fields-in : (h : Head) (code : List ℕ) (l : Listed) → DecodedIn (fields h code l)
-fields-in h code (Found row) = instruction-in h row (displacementOf h row code)
+fields-in h code (Found row) = instruction-in h row code
 fields-in h code Nothing = tt
 
 first-of : (cs : List (Bool × Refusal)) (d : Decoded) → DecodedIn d → DecodedIn (firstOf (map (λ c. (c .0, Refused (c .1))) cs) d)

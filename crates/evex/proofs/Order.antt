@@ -8,7 +8,7 @@ use borrow.Author.Tests.{ne-eqb, lt-ltb, le-ltb}
 use lib.ListN.{length, drop}
 use Rattle.lists.specs.Lists.{some, firstOf}
 use Rattle.evex.specs.Bits.{byte}
-use Rattle.evex.specs.Fields.{headOf, listed, size, displacementOf, instruction}
+use Rattle.evex.specs.Fields.{headOf, listed, size, instruction}
 use Rattle.evex.specs.Decode.{noBytes, wrongFirstByte, fewerThanSixBytes, wrongFixedBits, notInList, reservedForms, bytesMissing}
 use Rattle.evex.specs.Decode.{longerThanFifteenBytes, headConditions, rowConditions, refusals, fields, decoded}
 use Rattle.evex.specs.declared.head.Head.{Head}
@@ -79,7 +79,7 @@ module _ (code : List ℕ) where
 abbrev ending : List ℕ → Head → Row → Decoded
 ending code h row =
     firstOf ((bytesMissing h row code, Refused Incomplete) ∷ (longerThanFifteenBytes h row, Refused TooLong) ∷ [])
-    (Fields (instruction h row (displacementOf h row code)))
+    (Fields (instruction h row code))
 
 module _ {code : List ℕ} {h : Head} where
   pub fixed-bits : Begun code → h ≡ headOf code → wrongFixedBits h ≡ true → Refused Reserved ≡ decoded code
@@ -110,6 +110,6 @@ module _ {code : List ℕ} {h : Head} where
         unfolding bytesMissing longerThanFifteenBytes
         too-long s = rw (← after-list (g .headed) (g .found), g .plain, ← e, le-ltb (length code) n whole, lt-ltb 15 n s)
 
-        pub accepted : n ≤ 15 → Fields (instruction h row (displacementOf h row code)) ≡ decoded code
+        pub accepted : n ≤ 15 → Fields (instruction h row code) ≡ decoded code
         unfolding bytesMissing longerThanFifteenBytes
         accepted s = rw (← after-list (g .headed) (g .found), g .plain, ← e, le-ltb (length code) n whole, le-ltb 15 n s)

@@ -7,7 +7,7 @@ use lib.ListN.{length}
 use Rattle.lists.specs.Lists.{firstOf}
 use Rattle.evex.specs.Bits.{isSet, byte}
 use Rattle.evex.specs.List.{shape}
-use Rattle.evex.specs.Fields.{headOf, listed, lengthBits, fullLength, z, aaa, firstSource, size, displacementOf, instruction}
+use Rattle.evex.specs.Fields.{headOf, listed, lengthBits, registerB, z, aaa, firstSource, size, instruction}
 use Rattle.evex.specs.declared.head.Head.{Head}
 use Rattle.evex.specs.declared.list.Row.{Row}
 use Rattle.evex.specs.declared.list.Listed.{Listed}
@@ -47,9 +47,9 @@ unfoldable pub notInList : Listed → Bool
 notInList (Found row) = false
 notInList Nothing = true
 
--- R4.10: length bits 3, but at full length. That holds of every row.
+-- R4.10: length bits 3, unless they hold a mode (R3.8). Every row reserves them.
 unfoldable pub reservedLength : Head → Bool
-reservedLength h = eqb (lengthBits h) 3 && not (fullLength h)
+reservedLength h = eqb (lengthBits h) 3 && not (registerB h)
 
 -- R4.10: zeroing without a mask.
 unfoldable pub zeroingWithoutMask : Head → Bool
@@ -109,7 +109,7 @@ refusals code =
 
 -- The fields, where nothing refuses. (Without a row `notInList` has refused.)
 abbrev pub fields : Head → List ℕ → Listed → Decoded
-fields h code l = ofRow l (Refused Unlisted) (λ row. Fields (instruction h row (displacementOf h row code)))
+fields h code l = ofRow l (Refused Unlisted) (λ row. Fields (instruction h row code))
 
 -- The refusal that comes first, or else the fields. (R11.5 calls code decoded only where, besides, neither R4.3 nor R4.4 holds.)
 unfoldable pub decoded : List ℕ → Decoded

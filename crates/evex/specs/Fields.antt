@@ -1,4 +1,5 @@
--- docs/RULES.md, section 3, in its order: the fields of an instruction. Of bytes that are refused they do not count (Decode.antt).
+-- docs/RULES.md, section 3: the fields of an instruction, first what its bytes say whatever their row, then what they say with it, each in
+-- the section's order. Of bytes that are refused they do not count (Decode.antt).
 use Prim.Native.Nat.{ℕ, _+_, _*_}
 use mathlib.Core.Bool.{Bool, cond, not, _&&_, _||_}
 use mathlib.Core.List.{List}
@@ -117,13 +118,13 @@ module _ (h : Head) where
   unfoldable pub registerForm : Bool
   registerForm = eqb modBits 3
 
-  -- R3.8: b in register form. The vector has its full length then.
-  unfoldable pub fullLength : Bool
-  fullLength = registerForm && b
+  -- R3.8: b in register form.
+  unfoldable pub registerB : Bool
+  registerB = registerForm && b
 
-  -- R3.7, R3.8: the lanes of a vector: 32 at full length, else by the length bits.
+  -- R3.7, R3.8: the lanes of a vector: 32 with b in register form, else by the length bits.
   unfoldable pub vectorLanes : ℕ
-  vectorLanes = cond fullLength 32 (cond (eqb lengthBits 0) 8 (cond (eqb lengthBits 1) 16 32))
+  vectorLanes = cond registerB 32 (cond (eqb lengthBits 0) 8 (cond (eqb lengthBits 1) 16 32))
 
   -- ---- memory
 
@@ -162,7 +163,8 @@ module _ (h : Head) where
       cond registerForm (operand.Register secondSource)
       (operand.Memory (record { base = baseOf; index = indexOf; displacement = displacement }) b)
 
--- ---- what the head says together with its row. A column of the shape that decides one of these stands in that one alone.
+-- ---- with its row
+
 module _ (h : Head) (row : Row) where
   -- R2.2, R3.6: the first source, where there is one.
   unfoldable pub first : Source
@@ -174,13 +176,9 @@ module _ (h : Head) (row : Row) where
 
   -- R3.8: whose mode counts.
   unfoldable pub rounding : Rounding
-  rounding = cond (fullLength h) (Embedded (modeOfBits (lengthBits h))) Control
+  rounding = cond (registerB h) (Embedded (modeOfBits (lengthBits h))) Control
 
-  -- R3.14: the instruction's length in bytes.
-  unfoldable pub size : ℕ
-  size = displacementAt h + displacementSize h
-
-  -- R3.13: the unit of a displacement of one byte: an element, or all of them. An element has 2 bytes.
+  -- R3.13: the unit of a displacement of one byte: an element, which has 2 bytes, or all of them.
   unfoldable pub N : ℕ
   N = 2 * cond (b h) 1 elements
 
@@ -190,9 +188,13 @@ module _ (h : Head) (row : Row) where
       cond (eqb (displacementSize h) 1) (signed 8 (byte code (displacementAt h)) *ℤ pos N)
       (cond (eqb (displacementSize h) 4) (signed 32 (fourBytes code (displacementAt h))) (pos 0))
 
-  -- R3.1: all fields, by the displacement.
-  unfoldable pub instruction : ℤ → Instruction
-  instruction displacement =
+  -- R3.14: the instruction's length in bytes.
+  unfoldable pub size : ℕ
+  size = displacementAt h + displacementSize h
+
+  -- R3.1: all fields.
+  unfoldable pub instruction : List ℕ → Instruction
+  instruction code =
       record {
         operation = operation row;
         shape = shape row;
@@ -202,6 +204,6 @@ module _ (h : Head) (row : Row) where
         mask = aaa h;
         destination = destination h;
         first = first;
-        second = second h displacement;
+        second = second h (displacementOf code);
         size = size;
       }

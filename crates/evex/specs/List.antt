@@ -13,15 +13,15 @@ use Rattle.evex.specs.declared.list.Listed.the-variants.{Found, Nothing}
 -- ---- R2.2: shapes
 
 -- two sources
-abbrev packed : Shape
+abbrev pub packed : Shape
 packed = record { first = true; accumulates = false }
 
 -- the second source alone
-abbrev root : Shape
+abbrev pub root : Shape
 root = record { first = false; accumulates = false }
 
--- two sources and the destination, to which is added or which is multiplied
-abbrev fused : Shape
+-- two sources and the destination
+abbrev pub fused : Shape
 fused = record { first = true; accumulates = true }
 
 -- ---- R2.1: the table

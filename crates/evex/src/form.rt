@@ -1,4 +1,4 @@
-// What a head says together with its row: the fields that a column of the row decides, and the reserved forms.
+// What a head says together with its row: the fields, and the reserved forms.
 ghost use mathlib.Core.Path.{_≡_};
 ghost use Prim.Native.Nat.{_≤_};
 ghost use Rattle.lists.specs.Lists.{some};
@@ -16,7 +16,7 @@ use super::head::Head;
 use super::list::Row;
 use half::Mode;
 
-// R2.2: where there is one.
+// The first source, where there is one (R2.2).
 fn first(head: Head, row: Row) -> Source
     ensures { λ r. ⌜ r ≡ first head row ⌝ }
 {
@@ -27,18 +27,18 @@ fn first(head: Head, row: Row) -> Source
     Source::None
 }
 
-// R3.7: one in each lane.
+// How many (R3.7): one in each lane of a vector.
 fn elements(head: Head, row: Row) -> u8
     ensures { λ r. ⌜ (r ≡ elements head row) × (r ≤ 32) ⌝ }
 {
     head.vector_lanes()
 }
 
-// R3.8.
+// Whose mode counts (R3.8).
 fn rounding(head: Head, row: Row) -> Rounding
     ensures { λ r. ⌜ r ≡ rounding head row ⌝ }
 {
-    if head.has_full_length() {
+    if head.has_register_b() {
         let mode = Mode::of_bits(head.length_bits() as u32);
         return Rounding::Embedded(mode);
     }
@@ -62,8 +62,8 @@ fn unit(head: Head, row: Row) -> u8
     2 * elements(head, row)
 }
 
-// R3.12.
-pub(crate) fn displacement(head: Head, row: Row, code: &[u8]) -> i32
+// The displacement, 0 where there is none (R3.12).
+fn displacement(head: Head, row: Row, code: &[u8]) -> i32
     ensures { λ r. ⌜ r ≡ displacementOf head row (now (code .entry)) ⌝ }
 {
     let at = head.displacement_at();
@@ -77,14 +77,14 @@ pub(crate) fn displacement(head: Head, row: Row, code: &[u8]) -> i32
     0
 }
 
-pub(crate) fn instruction(head: Head, row: Row, displacement: i32) -> Instruction
-    ensures { λ r. ⌜ r ≡ instruction head row displacement ⌝ }
+pub(crate) fn instruction(head: Head, row: Row, code: &[u8]) -> Instruction
+    ensures { λ r. ⌜ r ≡ instruction head row (now (code .entry)) ⌝ }
 {
     let operation = row.operation();
     let shape = row.shape();
     let rounding = rounding(head, row);
     let first = first(head, row);
-    let second = head.second(displacement);
+    let second = head.second(displacement(head, row, code));
     Instruction {
         operation,
         shape,

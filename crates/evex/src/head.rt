@@ -4,7 +4,7 @@ ghost use mathlib.Core.Bool.{cond};
 ghost use Prim.Native.Nat.{_≤_, _<_};
 ghost use lib.ListN.{length};
 ghost use Rattle.evex.specs.Bits.{byte};
-ghost use Rattle.evex.specs.Fields.{takesSib, headOf, z, aaa, b, lengthBits, registerForm, fullLength, vectorLanes, listed, destination};
+ghost use Rattle.evex.specs.Fields.{takesSib, headOf, z, aaa, b, lengthBits, registerForm, registerB, vectorLanes, listed, destination};
 ghost use Rattle.evex.specs.Fields.{firstSource, secondSource, hasSib, baseBits, noBase, baseOf, indexNumber, indexOf, displacementAt};
 ghost use Rattle.evex.specs.Fields.{displacementSize, second};
 ghost use Rattle.evex.specs.Decode.{wrongFixedBits, reservedLength, zeroingWithoutMask};
@@ -97,8 +97,8 @@ impl Head {
     }
 
     // R3.8: b in register form.
-    pub(crate) fn has_full_length(self) -> bool
-        ensures { λ r. ⌜ r ≡ fullLength self ⌝ }
+    pub(crate) fn has_register_b(self) -> bool
+        ensures { λ r. ⌜ r ≡ registerB self ⌝ }
     {
         self.is_register_form() & self.has_b()
     }
@@ -136,7 +136,7 @@ impl Head {
     pub(crate) fn vector_lanes(self) -> u8
         ensures { λ r. ⌜ (r ≡ vectorLanes self) × (r ≤ 32) ⌝ }
     {
-        if self.has_full_length() {
+        if self.has_register_b() {
             return 32;
         }
         match self.length_bits() {
@@ -260,11 +260,11 @@ impl Head {
         find(prefix, map, w, self.opcode)
     }
 
-    // R4.10: length bits 3, but at full length.
+    // R4.10: length bits 3, unless they hold a mode.
     pub(crate) fn has_reserved_length(self) -> bool
         ensures { λ r. ⌜ r ≡ reservedLength self ⌝ }
     {
-        (self.length_bits() == 3) & !self.has_full_length()
+        (self.length_bits() == 3) & !self.has_register_b()
     }
 
     // R4.10: z without a mask.

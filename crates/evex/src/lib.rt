@@ -21,8 +21,8 @@ pub enum Operation {
     Fused231,
 }
 
-// What the instructions of a row have in common beyond their operation (R2.2): whether there is a first source, and whether the
-// destination is a source too.
+// What a row says beyond what finds it and its operation (R2.2): whether there is a first source, and whether the destination is a source
+// too.
 pub struct Shape {
     pub first: bool,
     pub accumulates: bool,
@@ -65,8 +65,7 @@ pub enum Operand {
     Memory { address: Address, broadcast: bool },
 }
 
-// The fields of an instruction. An element is what one operation works on, here a lane: 8, 16 or 32 (R3.7). The size is the length in
-// bytes (R3.14).
+// The fields of an instruction. Elements are 8, 16 or 32, one in each lane (R3.7); the size is the length in bytes (R3.14).
 pub struct Instruction {
     pub operation: Operation,
     pub shape: Shape,
@@ -137,5 +136,5 @@ pub fn decode(code: &[u8]) -> Decoded
     if 15 < size {
         return Decoded::Refused(Refusal::TooLong);
     }
-    Decoded::Fields(form::instruction(head, row, form::displacement(head, row, code)))
+    Decoded::Fields(form::instruction(head, row, code))
 }

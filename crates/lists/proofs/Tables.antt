@@ -6,16 +6,16 @@ use mathlib.Core.Path.{_≡_, refl, sym, ap, ap₂, _∙_}
 use mathlib.Core.Bool.{Bool, true, false, not, _||_, or-true, or-false, or-assoc, false≢true}
 use mathlib.Core.Logic.{_⊎_, inl, inr}
 use mathlib.Core.List.{List, [], _∷_, _++_, List·Memᴰ, List·Memᴰ·head, List·Memᴰ·tail, List·Memᴰ·not-nil, List·Memᴰ·cases-cons, Memᴰ·cast}
-use mathlib.Core.List.{append-assoc, append-nil}
+use mathlib.Core.List.{append-assoc}
 use native.Mathlib.Nat.{add-zero}
 use native.Mathlib.Numerals.{add-one}
 use native.Mathlib.Omega.{arith}
 use borrow.Author.Tests.{ne-eqb}
 use lib.Bits.{bitAnd, bitOr, and-step, or-step, and-zero-r, or-zero-l, or-zero-r, and-le-r, or-lt, or-add-and}
 use lib.Dec.{eqb}
-use lib.ListN.{length, getD, take, drop, set, drop-of-length-le, List·getD-append}
+use lib.ListN.{length, getD, take, drop, List·getD-append}
 use lib.Pow.{pow-pos}
-use lib.Seq.{paste, ext-getD, drop-cons, set-at, append-snoc, take-all, length-paste-head, getD-append-add, getD-take, getD-drop}
+use lib.Seq.{paste, ext-getD, take-all, length-paste-head, getD-append-add, getD-take, getD-drop}
 use lib.Seq.{length-take-le}
 use Rattle.lists.specs.Lists.{some, orAll, tableFrom, table, numberAt}
 
@@ -84,25 +84,6 @@ module _ {A : Type 0} where
   pub table-next : (n : ℕ) (f : ℕ → A) → table (n + 1) f ≡ table n f ++ (f n ∷ [])
   unfolding table
   table-next n f = rw add-one (tableFrom-next f 0 n ∙ ap (λ (k : ℕ). tableFrom 0 n f ++ (f k ∷ [])) (omega arith))
-
-  -- two elements more, as the bytes of a half
-  pub table-two : (n : ℕ) (f : ℕ → A) → table (2 * (n + 1)) f ≡ table (2 * n) f ++ (f (2 * n) ∷ f (2 * n + 1) ∷ [])
-  table-two n f =
-      ap (λ (k : ℕ). table k f) (omega arith)
-      ∙ table-next (2 * n + 1) f
-      ∙ ap (λ (l : List A). l ++ (f (2 * n + 1) ∷ [])) (table-next (2 * n) f)
-      ∙ append-assoc (table (2 * n) f) (f (2 * n) ∷ []) (f (2 * n + 1) ∷ [])
-
-  -- a loop that fills d from the front: after n stores it is f's up to n, and d's from there on
-  pub fill-next : (n : ℕ) (f : ℕ → A) (d : List A) → n < length d → set (table n f ++ drop n d) n (f n) ≡ table (n + 1) f ++ drop (n + 1) d
-  fill-next n f d h =
-      ap (λ (l : List A). set (table n f ++ l) n (f n)) (drop-cons d n (f n) h)
-      ∙ set-at (table n f) (getD d n (f n)) (drop (suc n) d) (f n) n (length-table n f)
-      ∙ sym (append-snoc (table n f) (f n) (drop (suc n) d))
-      ∙ rw (table-next n f, add-one n)
-
-  pub fill-all : (n : ℕ) (f : ℕ → A) (d : List A) → length d ≤ n → table n f ++ drop n d ≡ table n f
-  fill-all n f d h = rw (drop-of-length-le d {i = n} h) (append-nil (table n f))
 
 -- ---- some element
 

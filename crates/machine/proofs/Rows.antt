@@ -9,7 +9,7 @@ use Rattle.half.specs.Modes.{modeOfBits}
 use Rattle.half.specs.Operations.{exactSum, halfAdd, halfMultiply, halfDivide, halfRoot, halfMultiplyAdd}
 use Rattle.half.specs.Rows.{starred}
 use Rattle.evex.specs.List.{rows}
-use Rattle.evex.specs.Fields.{takesSib, headOf, listed, registerForm, fullLength, vectorLanes, hasSib, baseBits, indexOf, noBase, baseOf}
+use Rattle.evex.specs.Fields.{takesSib, headOf, listed, registerForm, registerB, vectorLanes, hasSib, baseBits, indexOf, noBase, baseOf}
 use Rattle.evex.specs.Fields.{displacementAt, displacementSize, second, first, elements, rounding, N, displacementOf, instruction}
 use Rattle.evex.specs.Fields as fields
 use Rattle.evex.specs.Decode.{noBytes, wrongFirstByte, fewerThanSixBytes, wrongFixedBits, notInList, reservedLength, zeroingWithoutMask}
@@ -36,7 +36,7 @@ use Rattle.machine.specs.Rows.{StarredRows}
 
 computed : DecodedBytes × StarredRows
 unfolding size units against whole rootFrom roundTo significant encode roundedHalf modeOfBits exactSum halfAdd halfMultiply
-    halfDivide halfRoot halfMultiplyAdd starred rows takesSib headOf listed registerForm fullLength vectorLanes hasSib
+    halfDivide halfRoot halfMultiplyAdd starred rows takesSib headOf listed registerForm registerB vectorLanes hasSib
     baseBits indexOf noBase baseOf displacementAt displacementSize second first elements rounding fields.size N
     displacementOf instruction noBytes wrongFirstByte fewerThanSixBytes wrongFixedBits notInList reservedLength
     zeroingWithoutMask extraSource reservedForms bytesMissing longerThanFifteenBytes headConditions rowConditions refusals

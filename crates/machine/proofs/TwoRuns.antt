@@ -5,7 +5,7 @@
 -- Everything else is computed from the registers, the bytes and what was gathered, which are equal in both runs (`.. same`).
 -- Assumes nothing.
 use Prim.Native.Nat.{ℕ, suc, _+_, _/_, _≤_, _<_}
-use mathlib.Core.Path.{_≡_, refl, sym, ap, _∙_, subst}
+use mathlib.Core.Path.{_≡_, refl, sym, _∙_, subst}
 use mathlib.Core.Bool.{Bool, true}
 use mathlib.Core.List.{List, [], _∷_}
 use native.Mathlib.Omega.{arith}
@@ -18,7 +18,7 @@ use Rattle.lists.specs.Lists.{Each}
 use Rattle.lists.proofs.Tests.{either-related, either-equal}
 use Rattle.lists.proofs.Tables.{table-equal, length-table, getD-table}
 use Rattle.machine.specs.State.{State, registerAt, lanePlaces}
-use Rattle.machine.specs.Memory.{located, bytesAt, on, operandOf, bytesRead, needsOutside}
+use Rattle.machine.specs.Memory.{bytesAt, on, secondAt, bytesRead, needsOutside}
 use Rattle.machine.specs.Lanes.{Sources, registerHalves, memoryHalves, noHalves, destinationHalves, firstHalves, secondHalves, gathered}
 use Rattle.machine.specs.Lanes.{results, raised, raisesUnmasked, controlAfter, Fill, computed, copied, zeroed, fill, filled, newRegister}
 use Rattle.machine.specs.Lanes.{vectorsWith, vectorsAfter}
@@ -29,6 +29,11 @@ use Rattle.machine.specs.TwoRuns.{EqualOpen, laneNumber, Alike, AlikeAft
 use Rattle.machine.specs.TwoRuns.{TwoRuns}
 use Rattle.machine.proofs.Agree.{each-of, equal-at, numbers-equal, paste-equal}
 use Rattle.machine.proofs.Ends.{Way, early, fields, way, decoded-size, step-early, step-decoded}
+
+-- a register has 64 bytes however it is filled
+pub new-length : (how : ℕ → Fill) (vectors halves : List ℕ) → length (newRegister how vectors halves) ≡ 64
+unfolding newRegister
+new-length how vectors halves = length-table 64 _
 
 -- ---- what looks at the registers alone
 
@@ -103,7 +108,7 @@ module _ (HiddenLane HiddenByte : ℕ → Type 0) where
           record {
             destination = destination-equal (i .shape .accumulates) (i .destination) x;
             first = first-equal (i .first) x;
-            second = second-equal (operandOf s i) bytes x;
+            second = second-equal (secondAt s i) bytes x;
           }
 
     -- ---- what is written
@@ -120,16 +125,12 @@ module _ (HiddenLane HiddenByte : ℕ → Type 0) where
       unfolding newRegister
       new-byte vectors k h = getD-table 64 _ k 0 h
 
-      new-length : (vectors : List ℕ) → length (newRegister how vectors halves) ≡ 64
-      unfolding newRegister
-      new-length vectors = length-table 64 _
-
       filled-alike : registerAt n + 64 ≤ length (s .vectors)
-          → EqualOpen HiddenPlace (vectorsWith how halves n (s .vectors)) (vectorsWith how halves n v)
+          → EqualOpen HiddenPlace (vectorsWith how (s .vectors) halves n) (vectorsWith how v halves n)
       unfolding vectorsWith
       filled-alike fits =
           paste-equal (registerAt n) 64 (newRegister how (s .vectors) halves) (newRegister how v halves)
-          files fits (new-length (s .vectors)) (new-length v)
+          files fits (new-length how (s .vectors) halves) (new-length how v halves)
           (λ k h o. new-byte (s .vectors) k h ∙ filled-equal k h o (how (k / 2)) ∙ sym (new-byte v k h))
 
     written-alike : (halves : List ℕ) → registerAt (i .destination) + 64 ≤ length (s .vectors)

@@ -5,6 +5,7 @@ use mathlib.Core.Bool.{Bool, true, false}
 use mathlib.Core.List.{List, [], _∷_}
 use lib.IntN.{ℤ, pos}
 use Rattle.half.specs.declared.Mode.the-variants.{Down}
+use Rattle.evex.specs.List.{packed}
 use Rattle.evex.specs.Decode.{decoded}
 use Rattle.evex.specs.declared.Operation.the-variants.{Add}
 use Rattle.evex.specs.declared.Rounding.{Rounding}
@@ -30,7 +31,7 @@ adds rounding zeroing mask second size =
     Fields
     (record {
       operation = Add;
-      shape = record { first = true; accumulates = false };
+      shape = packed;
       elements = 32;
       rounding = rounding;
       zeroing = zeroing;

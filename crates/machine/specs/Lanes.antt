@@ -19,7 +19,7 @@ use Rattle.evex.specs.declared.Source.{Source}
 use Rattle.evex.specs.declared.Source.the-variants as source
 use Rattle.evex.specs.declared.Instruction.{Instruction}
 use Rattle.machine.specs.State.{State, registerAt, lanePlaces, unmaskedFlags, controlMode}
-use Rattle.machine.specs.Memory.{wordFrom, wordBytes, on, operandOf}
+use Rattle.machine.specs.Memory.{wordFrom, wordBytes, on, secondAt}
 use Rattle.machine.specs.declared.Located.{Located}
 use Rattle.machine.specs.declared.Located.the-variants as place
 use Rattle.machine.specs.declared.Environment.{Environment}
@@ -37,14 +37,19 @@ abbrev pub unmasked : Rounding → ℕ → ℕ
 unmasked Control control = unmaskedFlags control
 unmasked (Embedded mode) control = 0
 
--- what an operation is told of them: the mode, and whether UE (bit 4) is unmasked
-abbrev pub environmentOf : Rounding → ℕ → Environment
-environmentOf rounding control = record { mode = roundingMode rounding control; underflow = isSet (unmasked rounding control) 4 }
+-- what an instruction's operation is told: the mode, and whether UE (bit 4) is unmasked
+abbrev pub environmentOf : Instruction → ℕ → Environment
+environmentOf i control =
+    record { mode = roundingMode (i .rounding) control; underflow = isSet (unmasked (i .rounding) control) 4 }
 
 -- R7.2: the control word with flags set in it, and all its other bits kept (R1.6)
 abbrev pub recorded : Rounding → ℕ → ℕ → ℕ
 recorded Control control flags = bitOr control flags
 recorded (Embedded mode) control flags = control
+
+-- R7.3: one of these flags is of an unmasked exception
+abbrev pub raises : Rounding → ℕ → ℕ → Bool
+raises rounding control flags = not (eqb (bitAnd flags (unmasked rounding control)) 0)
 
 -- ---- the sources
 
@@ -90,7 +95,7 @@ gathered memory s i =
     record {
       destination = destinationHalves (on s i) (s .vectors) (i .shape .accumulates) (i .destination);
       first = firstHalves (on s i) (s .vectors) (i .first);
-      second = secondHalves (on s i) (s .vectors) memory (operandOf s i);
+      second = secondHalves (on s i) (s .vectors) memory (secondAt s i);
     }
 
 -- ---- R2.1, R2.2: an operation, of d in the destination, f in the first source and x in the second
@@ -119,7 +124,7 @@ elementAt op e g j = operated op e (getD (g .destination) j 0) (getD (g .first) 
 module _ (s : State) (i : Instruction) (g : Sources) where
   -- R2.1: of the instruction
   abbrev pub laneOf : ℕ → Element
-  laneOf j = elementAt (i .operation) (environmentOf (i .rounding) (s .control)) g j
+  laneOf j = elementAt (i .operation) (environmentOf i (s .control)) g j
 
   -- R5.8: the halves, before one is written
   unfoldable pub results : List ℕ
@@ -131,7 +136,7 @@ module _ (s : State) (i : Instruction) (g : Sources) where
 
   -- R7.3: one of them is of an unmasked exception
   unfoldable pub raisesUnmasked : Bool
-  raisesUnmasked = not (eqb (bitAnd raised (unmasked (i .rounding) (s .control))) 0)
+  raisesUnmasked = raises (i .rounding) (s .control) raised
 
   -- R7.2, R7.4: the control word after the instruction, be the answer 0 or 8
   unfoldable pub controlAfter : ℕ
@@ -152,7 +157,7 @@ fill s i j =
     (cond (ltb j (i .elements) && not (i .zeroing)) (copied (i .destination))
     zeroed)
 
--- byte q of a register that is filled so, from these registers and results
+-- byte q of a register whose lane is filled so, from these registers and results
 abbrev pub filled : List ℕ → List ℕ → ℕ → Fill → ℕ
 filled vectors halves q computed = getD halves (q / 2) 0 / 256 ^ (q % 2) % 256
 filled vectors halves q (copied n) = getD vectors (registerAt n + q) 0
@@ -160,12 +165,12 @@ filled vectors halves q zeroed = 0
 
 -- all 64 bytes of it
 unfoldable pub newRegister : (ℕ → Fill) → List ℕ → List ℕ → List ℕ
-newRegister fill vectors halves = table 64 (λ q. filled vectors halves q (fill (q / 2)))
+newRegister how vectors halves = table 64 (λ q. filled vectors halves q (how (q / 2)))
 
 -- the vector file with a register anew
-unfoldable pub vectorsWith : (ℕ → Fill) → List ℕ → ℕ → List ℕ → List ℕ
-vectorsWith fill halves n vectors = paste vectors (registerAt n) (newRegister fill vectors halves) 64
+unfoldable pub vectorsWith : (ℕ → Fill) → List ℕ → List ℕ → ℕ → List ℕ
+vectorsWith how vectors halves n = paste vectors (registerAt n) (newRegister how vectors halves) 64
 
 -- and that is the destination
 unfoldable pub vectorsAfter : State → Instruction → List ℕ → List ℕ
-vectorsAfter s i halves = vectorsWith (fill s i) halves (i .destination) (s .vectors)
+vectorsAfter s i halves = vectorsWith (fill s i) (s .vectors) halves (i .destination)

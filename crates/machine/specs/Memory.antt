@@ -1,4 +1,4 @@
--- docs/RULES.md, R5.1 and R5.4 to R5.7: addresses, which lanes are on, and the memory bytes that are needed.
+-- docs/RULES.md, R5.1 to R5.7: addresses, which lanes are on, and the memory bytes that are needed.
 use Prim.Native.Nat.{ℕ, _+_, _-_, _*_, _%_, _^_}
 use mathlib.Core.Bool.{Bool, cond, _&&_, _||_}
 use mathlib.Core.List.{List, [], _∷_}
@@ -58,7 +58,7 @@ abbrev pub bytesAt : Located → ℕ → List ℕ
 bytesAt (place.Register n) j = []
 bytesAt (place.Words at broadcast) j = wordBytes (wordFrom at broadcast j)
 
--- R5.7: one of those that the lanes that are on need lies outside a memory of this length (R1.8)
+-- R5.7: a lane that is on reads a byte outside a memory of this length (R1.8)
 unfoldable pub outside : (ℕ → Bool) → ℕ → Located → Bool
 outside on memoryLength second = some (λ j. on j && some (λ a. leb memoryLength a) (bytesAt second j)) (table 32 (λ j. j))
 
@@ -70,7 +70,7 @@ isOn masks aaa elements e = ltb e elements && (eqb aaa 0 || isSet (getD masks aa
 
 -- ---- of an instruction in a state
 module _ (s : State) (i : Instruction) where
-  -- R5.1: its element e is on. An element is a lane, which the instruction then switches on.
+  -- R5.1: its element e is on, and the lane that holds it switched on
   unfoldable pub on : ℕ → Bool
   on e = isOn (s .masks) (i .mask) (i .elements) e
 
@@ -79,13 +79,13 @@ module _ (s : State) (i : Instruction) where
   nextPointer = (s .pointer + i .size) % 2 ^ 64
 
   -- R5.3, R5.4: where its second source is
-  abbrev pub operandOf : Located
-  operandOf = located (s .general) nextPointer (i .second)
+  abbrev pub secondAt : Located
+  secondAt = located (s .general) nextPointer (i .second)
 
-  -- R5.2, R5.6: the addresses of the memory bytes that lane j reads of an operand, where it is on
+  -- R5.2, R5.6: the addresses of the memory bytes that lane j reads, where it is on, as R11.5 speaks of them
   abbrev pub bytesRead : Operand → ℕ → List ℕ
-  bytesRead operand j = bytesAt (located (s .general) nextPointer operand) j
+  bytesRead o j = bytesAt (located (s .general) nextPointer o) j
 
   -- R5.7: one of the bytes that are needed lies outside a memory of this length
   unfoldable pub needsOutside : ℕ → Bool
-  needsOutside memoryLength = outside on memoryLength operandOf
+  needsOutside memoryLength = outside on memoryLength secondAt

@@ -8,7 +8,7 @@ pub struct Answer {
     pub length: u32,
 }
 
-// Where the second source is: a vector register, or words of memory, at this address alone with broadcast (R5.3, R5.5).
+// Where the second source is (R5.3, R5.5): a vector register, or the words of memory from an address on, with broadcast the one there.
 pub enum Located {
     Register(usize),
     Words { at: u64, broadcast: bool },

@@ -1,5 +1,5 @@
 -- Loops over the indices 0, 1, .., one at each turn: what stands in a list, in or-ed flags or in a test after j turns. A loop may end early,
--- where nothing is left to do; the list is a table then.
+-- where nothing is left to do.
 -- Assumes nothing.
 use Prim.Native.Nat.{ℕ, suc, _+_, _<_, _≤_}
 use mathlib.Core.Path.{_≡_, refl, sym, _∙_}
@@ -108,7 +108,7 @@ module _ {n : ℕ} {p : ℕ → Bool} {x : Bool} {j : ℕ} (F : Found n p x j) w
           → some p (table (suc i) (λ k. k)) ≡ some p (table j (λ k. k))
       next i k e = rw (← add-one i, some-next p i (λ k. k), rest i k, or-false (some p (table i (λ k. k)))) e
 
--- where a test is put to no index, none is found
+-- a test that no index can pass
 pub nowhere-off : (p : ℕ → Bool) (l : List ℕ) → some (λ j. p j && false) l ≡ false
 nowhere-off p [] = refl
 nowhere-off p (j ∷ l) = rw (and-false (p j)) (nowhere-off p l)

@@ -6,8 +6,7 @@ use mathlib.Core.Bool.{Bool, true, false, cond, not, _&&_}
 use mathlib.Core.List.{List}
 use native.Mathlib.Nat.{zero-div}
 use native.Mathlib.Omega.{arith}
-use lib.Dec.{ltb, eqb}
-use lib.Bits.{bitAnd}
+use lib.Dec.{ltb}
 use lib.ListN.{length, getD}
 use lib.Seq.{paste}
 use Rattle.evex.specs.declared.Operation.{Operation}
@@ -16,7 +15,7 @@ use Rattle.evex.specs.declared.Source.the-variants as source
 use Rattle.evex.specs.declared.Instruction.{Instruction}
 use Rattle.evex.specs.declared.Decoded.the-variants.{Fields}
 use Rattle.evex.specs.Decode.{decoded}
-use Rattle.lists.specs.Lists.{orAll, table}
+use Rattle.lists.specs.Lists.{orAll}
 use Rattle.lists.proofs.Tests.{either-equal}
 use Rattle.lists.proofs.Tables.{table-equal, getD-table}
 use Rattle.machine.specs.declared.Located.{Located}
@@ -24,8 +23,8 @@ use Rattle.machine.specs.declared.Located.the-variants as place
 use Rattle.machine.specs.declared.Environment.{Environment}
 use Rattle.machine.specs.declared.Element.{Element}
 use Rattle.machine.specs.State.{State, Stepped, registerAt, steppedOf}
-use Rattle.machine.specs.Memory.{isOn, on, nextPointer, located, outside, operandOf, needsOutside}
-use Rattle.machine.specs.Lanes.{Sources, unmasked, environmentOf, recorded, lanesOn, registerHalves, noHalves, destinationHalves, firstHalves}
+use Rattle.machine.specs.Memory.{isOn, on, nextPointer, located, outside, secondAt, needsOutside}
+use Rattle.machine.specs.Lanes.{Sources, raises, environmentOf, recorded, lanesOn, registerHalves, destinationHalves, firstHalves}
 use Rattle.machine.specs.Lanes.{secondHalves, gathered, elementAt, results, raised, raisesUnmasked, controlAfter, computed, copied, zeroed}
 use Rattle.machine.specs.Lanes.{fill, filled, newRegister, vectorsWith, vectorsAfter}
 use Rattle.machine.specs.Step.{refused, stopped, completed, step}
@@ -70,7 +69,7 @@ module _ (p : ℕ → Bool) where
 
 module _ (s : State) (i : Instruction) (g : Sources) where
   results-are :
-      resultsWhere (on s i) (i .operation) (environmentOf (i .rounding) (s .control)) g
+      resultsWhere (on s i) (i .operation) (environmentOf i (s .control)) g
       ≡ record { halves = results s i g; flags = raised s i g }
   unfolding resultsWhere results raised
   results-are = refl
@@ -87,7 +86,7 @@ module _ (s : State) (i : Instruction) (g : Sources) where
   filled-by q false false z = rw (z refl, zero-div (256 ^ (q % 2)))
 
   stored-is :
-      vectorsWith (keptOr (keptBy (on s i) (i .elements) (i .zeroing)) (i .destination)) (results s i g) (i .destination) (s .vectors)
+      vectorsWith (keptOr (keptBy (on s i) i) (i .destination)) (s .vectors) (results s i g) (i .destination)
       ≡ vectorsAfter s i (results s i g)
   unfolding vectorsWith vectorsAfter newRegister fill
   stored-is =
@@ -111,7 +110,7 @@ module _ (memory : List ℕ) (s : State) (i : Instruction) (p : ℕ → Bool) (e
   unfolding on
   lanes-are = e
 
-  second-is : second ≡ operandOf s i
+  second-is : second ≡ secondAt s i
   second-is = rw n at at
 
   outside-is : outside p (length memory) second ≡ needsOutside s i (length memory)
@@ -123,7 +122,7 @@ module _ (memory : List ℕ) (s : State) (i : Instruction) (p : ℕ → Bool) (e
   refuses t = rw (← outside-is, t)
 
   module _ (inside : outside p (length memory) second ≡ false) (r : Results)
-      (by : r ≡ resultsWhere p (i .operation) (environmentOf (i .rounding) (s .control))
+      (by : r ≡ resultsWhere p (i .operation) (environmentOf i (s .control))
       (record {
         destination = destinationHalves everyLane (s .vectors) (i .shape .accumulates) (i .destination);
         first = firstHalves everyLane (s .vectors) (i .first);
@@ -133,9 +132,9 @@ module _ (memory : List ℕ) (s : State) (i : Instruction) (p : ℕ → Bool) (e
     unfolding gathered
     computed-is =
         rw (by, second-is, lanes-are)
-        (results-equal (on s i) (i .operation) (environmentOf (i .rounding) (s .control)) _ (gathered memory s i)
+        (results-equal (on s i) (i .operation) (environmentOf i (s .control)) _ (gathered memory s i)
         (destination-agrees (on s i) (s .vectors) (i .shape .accumulates) (i .destination)) (first-agrees (on s i) (s .vectors) (i .first))
-        (second-agrees (on s i) (s .vectors) memory (operandOf s i))
+        (second-agrees (on s i) (s .vectors) memory (secondAt s i))
         ∙ results-are s i (gathered memory s i))
 
     pub finishes : {l : Left} → l ≡ finished p i r next (s .vectors) (s .control) (s .pointer) → joined s l ≡ executed memory s i
@@ -144,7 +143,7 @@ module _ (memory : List ℕ) (s : State) (i : Instruction) (p : ℕ → Bool) (e
         let g = gathered memory s i in
         let control = recorded (i .rounding) (s .control) (raised s i g) in
         rw (left, ← outside-is, inside, computed-is, lanes-are, stored-is s i g, n)
-        (either s (not (eqb (bitAnd (raised s i g) (unmasked (i .rounding) (s .control))) 0))
+        (either s (raises (i .rounding) (s .control) (raised s i g))
         (leftOf (record { number = 8; length = 0 }) (s .vectors) control (s .pointer))
         (leftOf (record { number = 0; length = i .size }) (vectorsAfter s i (results s i g)) control (nextPointer s i)))
 

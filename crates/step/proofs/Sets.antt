@@ -14,6 +14,7 @@ use lib.Dec.{eqb, ltb}
 use lib.ListN.{getD}
 use lib.Pow.{pow-pos, pow-mono, ones-lt, ones-split}
 use Rattle.evex.specs.Bits.{isSet}
+use Rattle.evex.specs.declared.Instruction.{Instruction}
 use Rattle.machine.specs.Memory.{isOn}
 use Rattle.step.specs.Work.{keptBy}
 
@@ -71,11 +72,10 @@ bit-above x n j h l =
     let e : x / 2 ^ j ≡ 0 = div-eq-of-lt (lt-of-lt-of-le h (pow-mono l)) in
     rw e
 
--- nor has 0
 pub no-bit : (j : ℕ) → isSet 0 j ≡ false
 no-bit j = rw (zero-div (2 ^ j))
 
--- below n, one that the others lack
+-- `^` with 2 ^ n - 1 turns each bit below n
 pub flipped-bit : (x n j : ℕ) → j < n → isSet (bitXor x (2 ^ n - 1)) j ≡ not (isSet x j)
 flipped-bit x n j h = xor-bit x (2 ^ n - 1) j ∙ rw (ones-bit n j, lt-ltb j n h) (go (isSet x j))
   where
@@ -88,31 +88,31 @@ flipped-bit x n j h = xor-bit x (2 ^ n - 1) j ∙ rw (ones-bit n j, lt-ltb j n h
 same-sets : {f g : ℕ → Bool} → ((j : ℕ) → f j ≡ g j) → f ≡ g
 same-sets h = λ i j. h j i
 
--- every lane below the number of lanes, or those whose bit in the mask is one besides
-pub on-all : (masks : List ℕ) (mask lanes : ℕ) → mask ≡ 0 → isSet (2 ^ lanes - 1) ≡ isOn masks mask lanes
-on-all masks mask lanes e = same-sets (λ j. rw (ones-bit lanes j, e) (sym (and-true (ltb j lanes))))
+-- every lane below the number of elements, or those whose bit in the mask is one besides
+pub on-all : (masks : List ℕ) (mask elements : ℕ) → mask ≡ 0 → isSet (2 ^ elements - 1) ≡ isOn masks mask elements
+on-all masks mask elements e = same-sets (λ j. rw (ones-bit elements j, e) (sym (and-true (ltb j elements))))
 
-pub on-some : (masks : List ℕ) (mask lanes : ℕ) → (mask ≡ 0 → ⊥)
-    → isSet (bitAnd (getD masks mask 0) (2 ^ lanes - 1)) ≡ isOn masks mask lanes
-on-some masks mask lanes n =
+pub on-some : (masks : List ℕ) (mask elements : ℕ) → (mask ≡ 0 → ⊥)
+    → isSet (bitAnd (getD masks mask 0) (2 ^ elements - 1)) ≡ isOn masks mask elements
+on-some masks mask elements n =
     same-sets
-    (λ j. rw (and-bit (getD masks mask 0) (2 ^ lanes - 1) j, ones-bit lanes j, ne-eqb mask 0 n)
-    (and-comm (isSet (getD masks mask 0) j) (ltb j lanes)))
+    (λ j. rw (and-bit (getD masks mask 0) (2 ^ elements - 1) j, ones-bit elements j, ne-eqb mask 0 n)
+    (and-comm (isSet (getD masks mask 0) j) (ltb j elements)))
 
--- no lane with zeroing, or else those below the number of lanes that are off
-and-false : (a b : Bool) → false ≡ (a && (b && false))
-and-false true true = refl
-and-false true false = refl
-and-false false b = refl
+-- no lane with zeroing, or else those below the number of elements that are off
+nowhere : (a b : Bool) → false ≡ (a && (b && false))
+nowhere true true = refl
+nowhere true false = refl
+nowhere false b = refl
 
-pub kept-none : (on lanes : ℕ) → isSet 0 ≡ keptBy (isSet on) lanes true
-kept-none on lanes = same-sets (λ j. no-bit j ∙ and-false (not (isSet on j)) (ltb j lanes))
+pub kept-none : (on : ℕ) (i : Instruction) → i .zeroing ≡ true → isSet 0 ≡ keptBy (isSet on) i
+kept-none on i z = same-sets (λ j. no-bit j ∙ rw z (nowhere (not (isSet on j)) (ltb j (i .elements))))
 
-off-below : (t : Bool) (j lanes : ℕ) → lanes ≤ 32 → (differs t (ltb j 32) && ltb j lanes) ≡ (not t && (ltb j lanes && true))
-off-below t j lanes h =
-    elim (decLt j lanes) [
-      | yes l ↦ rw (lt-ltb j lanes l, lt-ltb j 32 (omega arith)) (go t)
-      | no l ↦ rw (le-ltb j lanes (omega arith)) (gone t (ltb j 32))
+off-below : (t : Bool) (j elements : ℕ) → elements ≤ 32 → (differs t (ltb j 32) && ltb j elements) ≡ (not t && (ltb j elements && true))
+off-below t j elements h =
+    elim (decLt j elements) [
+      | yes l ↦ rw (lt-ltb j elements l, lt-ltb j 32 (omega arith)) (go t)
+      | no l ↦ rw (le-ltb j elements (omega arith)) (gone t (ltb j 32))
     ]
   where
     go : (t : Bool) → (differs t true && true) ≡ (not t && true)
@@ -125,9 +125,10 @@ off-below t j lanes h =
     gone false true = refl
     gone false false = refl
 
-pub kept-some : (on lanes : ℕ) → lanes ≤ 32 → isSet (bitAnd (bitXor on (2 ^ 32 - 1)) (2 ^ lanes - 1)) ≡ keptBy (isSet on) lanes false
-kept-some on lanes h =
+pub kept-some : (on : ℕ) (i : Instruction) → i .elements ≤ 32 → i .zeroing ≡ false
+    → isSet (bitAnd (bitXor on (2 ^ 32 - 1)) (2 ^ i .elements - 1)) ≡ keptBy (isSet on) i
+kept-some on i h z =
     same-sets
     (λ j.
-    rw (and-bit (bitXor on (2 ^ 32 - 1)) (2 ^ lanes - 1) j, xor-bit on (2 ^ 32 - 1) j, ones-bit 32 j, ones-bit lanes j)
-    (off-below (isSet on j) j lanes h))
+    rw (and-bit (bitXor on (2 ^ 32 - 1)) (2 ^ i .elements - 1) j, xor-bit on (2 ^ 32 - 1) j, ones-bit 32 j, ones-bit (i .elements) j, z)
+    (off-below (isSet on j) j (i .elements) h))

@@ -1,23 +1,24 @@
 -- A turn of the loop that stores lanes: a lane that is kept is left in place, and the two bytes of any other are stored.
 -- Assumes nothing.
 use Prim.Native.Nat.{ℕ, _+_, _-_, _*_, _/_, _%_, _^_, _<_, _≤_}
-use mathlib.Core.Path.{_≡_, refl, sym, ap, _∙_}
-use mathlib.Core.Bool.{Bool, true, false, cond, not}
+use mathlib.Core.Path.{_≡_, refl, sym, _∙_}
+use mathlib.Core.Bool.{Bool, true, false, cond}
 use mathlib.Core.List.{List, _++_}
 use native.Mathlib.Nat.{div-one}
 use native.Mathlib.Omega.{arith}
 use borrow.Author.Tests.{not-false}
 use lib.Bits.{bitXor}
-use lib.ListN.{length, getD, set, take, drop}
+use lib.ListN.{getD, set, take, drop}
 use lib.Seq.{drop-drop}
 use Rattle.lists.proofs.Tests.{either-equal}
-use Rattle.lists.proofs.Tables.{length-table, table-equal, part-at, paste-whole}
+use Rattle.lists.proofs.Tables.{table-equal, part-at, paste-whole}
 use Rattle.evex.specs.Bits.{isSet}
 use Rattle.machine.specs.State.{registerAt}
 use Rattle.machine.specs.Lanes.{computed, copied, filled, newRegister, vectorsWith}
+use Rattle.machine.proofs.TwoRuns.{new-length}
 use Rattle.step.specs.Work.{keptOr}
 use Rattle.step.proofs.Filling.{Filled, more, same}
-use Rattle.step.proofs.Sets.{bit-above, flipped-bit}
+use Rattle.step.proofs.Sets.{no-bit, bit-above, flipped-bit}
 
 -- byte q of register n
 abbrev pub byteOf : (ℕ → Bool) → List ℕ → ℕ → List ℕ → ℕ → ℕ
@@ -80,18 +81,14 @@ module _ (kept : ℕ → Bool) (halves : List ℕ) where
       ∙ either-equal (getD halves (q / 2) 0 / 256 ^ (q % 2) % 256) (kept (q / 2)) (λ _. rw (own q) (part-at file (n * 64) 64 q 0 h))
       ∙ sym (byte-of n file q))
 
-  new-length : (how : List ℕ) (n : ℕ) → length (newRegister (keptOr kept n) how halves) ≡ 64
-  unfolding newRegister
-  new-length how n = length-table 64 _
-
   -- the register's bytes in the place of the old ones
   pub pasted : (file : List ℕ) (n : ℕ)
       → take (n * 64) file ++ (newRegister (keptOr kept 0) (take 64 (drop (n * 64) file)) halves ++ drop 64 (drop (n * 64) file))
-      ≡ vectorsWith (keptOr kept n) halves n file
+      ≡ vectorsWith (keptOr kept n) file halves n
   unfolding vectorsWith
   pasted file n =
       rw (drop-drop 64 (n * 64) file, part file n)
-      (sym (paste-whole file (n * 64) (newRegister (keptOr kept n) file halves) 64 (new-length file n)))
+      (sym (paste-whole file (n * 64) (newRegister (keptOr kept n) file halves) 64 (new-length (keptOr kept n) file halves)))
 
 -- from the last lane that is not kept on all are
 pub rest-left : (kept end : ℕ) (halves d : List ℕ) → bitXor kept (2 ^ 32 - 1) < 2 ^ end
@@ -99,3 +96,9 @@ pub rest-left : (kept end : ℕ) (halves d : List ℕ) → bitXor kept (2 ^ 32 -
 rest-left kept end halves d h k l m =
     left (isSet kept) halves d k
     (not-false _ (sym (flipped-bit kept 32 (k / 2) (omega arith)) ∙ bit-above (bitXor kept (2 ^ 32 - 1)) end (k / 2) h (omega arith)))
+
+-- where no lane is kept, every one is computed
+pub none-kept : (kept : ℕ) (d halves : List ℕ) → kept ≡ 0
+    → newRegister (λ j. computed) d halves ≡ newRegister (keptOr (isSet kept) 0) d halves
+unfolding newRegister
+none-kept kept d halves e = table-equal 64 (λ q h. rw (e, no-bit (q / 2)))

@@ -1,4 +1,5 @@
--- A lane that is on reads both bytes of its word inside memory, where no word was found outside; and when none is.
+-- A lane that is on reads both bytes of its word inside memory, where no word was found outside. None is found where all words up to the
+-- last lane lie inside.
 -- Assumes nothing.
 use Prim.Native.Nat.{ℕ, _+_, _*_, _%_, _^_, _<_, _≤_}
 use mathlib.Core.Path.{_≡_, refl}

@@ -3,8 +3,7 @@
 use Prim.Native.Nat.{ℕ, _<_}
 use mathlib.Core.Bool.{Bool, true, cond, not, _&&_}
 use mathlib.Core.List.{List}
-use lib.Bits.{bitAnd}
-use lib.Dec.{eqb, ltb}
+use lib.Dec.{ltb}
 use lib.ListN.{length}
 use Rattle.lists.specs.Lists.{orAll}
 use Rattle.evex.specs.Decode.{numberOf}
@@ -18,7 +17,7 @@ use Rattle.machine.specs.declared.Located.the-variants as place
 use Rattle.machine.specs.declared.Environment.{Environment}
 use Rattle.machine.specs.State.{State, Stepped}
 use Rattle.machine.specs.Memory.{needsOutside}
-use Rattle.machine.specs.Lanes.{Sources, lanesOn, registerHalves, memoryHalves, gathered, elementAt, unmasked, recorded, raisesUnmasked}
+use Rattle.machine.specs.Lanes.{Sources, lanesOn, registerHalves, memoryHalves, gathered, elementAt, raises, recorded, raisesUnmasked}
 use Rattle.machine.specs.Lanes.{Fill, computed, copied, vectorsWith}
 use Rattle.machine.specs.Step.{refused, stopped, completed}
 use Rattle.step.specs.declared.lanes.Results.{Results}
@@ -28,9 +27,9 @@ use Rattle.step.specs.declared.lanes.Results.{Results}
 abbrev pub everyLane : ℕ → Bool
 everyLane j = true
 
--- lane j is off, and keeps the old destination
-abbrev pub keptBy : (ℕ → Bool) → ℕ → Bool → ℕ → Bool
-keptBy on elements zeroing j = not (on j) && (ltb j elements && not zeroing)
+-- lane j of an instruction's destination is off, and kept
+abbrev pub keptBy : (ℕ → Bool) → Instruction → ℕ → Bool
+keptBy on i j = not (on j) && (ltb j (i .elements) && not (i .zeroing))
 
 -- ---- the second source
 
@@ -74,11 +73,11 @@ leftOf answer vectors control pointer = record { answer = answer; vectors = vect
 -- once the lanes are computed: 8, or the destination stored
 unfoldable pub finished : (ℕ → Bool) → Instruction → Results → ℕ → List ℕ → ℕ → ℕ → Left
 finished on i r next vectors control pointer =
-    cond (not (eqb (bitAnd (r .flags) (unmasked (i .rounding) control)) 0))
+    cond (raises (i .rounding) control (r .flags))
     (leftOf (record { number = 8; length = 0 }) vectors (recorded (i .rounding) control (r .flags)) pointer)
     (leftOf
     (record { number = 0; length = i .size })
-    (vectorsWith (keptOr (keptBy on (i .elements) (i .zeroing)) (i .destination)) (r .halves) (i .destination) vectors)
+    (vectorsWith (keptOr (keptBy on i) (i .destination)) vectors (r .halves) (i .destination))
     (recorded (i .rounding) control (r .flags))
     next)
 

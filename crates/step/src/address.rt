@@ -99,7 +99,7 @@ fn words_inside(length: u64, at: u64, words: usize) -> bool
     (2 * words) as u64 <= length - at
 }
 
-// The words that lanes below `end` read stand behind one another; under broadcast it is one word.
+// How many words the lanes below `end` read, one behind the other; under broadcast all read one.
 fn words_below(broadcast: bool, end: usize) -> usize
     ensures { λ r. ⌜ r ≡ cond broadcast 1 end ⌝ }
 {
@@ -124,7 +124,7 @@ fn words_outside(on: u32, length: u64, at: u64, broadcast: bool) -> bool
     found
 }
 
-// Where the second source is. Its address is worked out here and nowhere else.
+// Where the second source is (R5.4).
 pub(crate) fn locate(second: Operand, general: &[u64; 16], next: u64) -> Located
     requires { ⌜ OperandIn second ⌝ }
     ensures { λ r. ⌜ (r ≡ located (now (general .entry)) next second) × LocatedIn r ⌝ }

@@ -1,10 +1,9 @@
 // The control word (R1.5), and what embedded rounding puts in its place (R7.5).
 ghost use mathlib.Core.Path.{_≡_};
-ghost use mathlib.Core.Bool.{not};
-ghost use lib.Bits.{bitAnd, bitOr};
-ghost use lib.Dec.{eqb};
+ghost use lib.Bits.{bitOr};
 ghost use Rattle.machine.specs.State.{controlMode, unmaskedFlags};
-ghost use Rattle.machine.specs.Lanes.{roundingMode, unmasked, environmentOf, recorded};
+ghost use Rattle.machine.specs.Lanes.{roundingMode, unmasked, environmentOf, recorded, raises};
+use evex::Instruction;
 use evex::Rounding;
 use half::Mode;
 use machine::Environment;
@@ -55,10 +54,11 @@ impl Control {
         }
     }
 
-    // What an operation is told: the mode, and whether UE, bit 4, is unmasked.
-    pub(crate) fn environment(self, rounding: Rounding) -> Environment
-        ensures { λ r. ⌜ r ≡ environmentOf rounding (self .bits) ⌝ }
+    // What an instruction's operation is told: the mode, and whether UE, bit 4, is unmasked.
+    pub(crate) fn environment(self, i: Instruction) -> Environment
+        ensures { λ r. ⌜ r ≡ environmentOf i (self .bits) ⌝ }
     {
+        let rounding = i.rounding;
         let mode = self.rounding_mode(rounding);
         let underflow = (self.unmasked(rounding) >> 4) % 2 == 1;
         Environment { mode, underflow }
@@ -75,7 +75,7 @@ impl Control {
 
     // R7.3: one of the flags is of an exception that is not masked.
     pub(crate) fn raises(self, rounding: Rounding, flags: u8) -> bool
-        ensures { λ r. ⌜ r ≡ not (eqb (bitAnd flags (unmasked rounding (self .bits))) 0) ⌝ }
+        ensures { λ r. ⌜ r ≡ raises rounding (self .bits) flags ⌝ }
     {
         flags & self.unmasked(rounding) != 0
     }

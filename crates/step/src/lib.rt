@@ -68,7 +68,7 @@ fn finish(
         return ended(8);
     }
     let halves = results.halves;
-    let kept = lanes_kept(on, i.elements, i.zeroing);
+    let kept = lanes_kept(on, i);
     store(vectors, i.destination, kept, halves);
     *control = flagged.bits;
     *pointer = next;
@@ -109,9 +109,8 @@ fn execute(
     let f = first_halves(vectors, first);
     let x = second_halves(on, vectors, memory, second);
     let operation = i.operation;
-    let rounding = i.rounding;
     let word = Control { bits: *control };
-    let environment = word.environment(rounding);
+    let environment = word.environment(i);
     let results = all_lanes(on, operation, environment, d, f, x);
     finish(vectors, control, pointer, i, on, next, results)
 }

@@ -1,9 +1,11 @@
 // Sets of lanes as 32 bits, lane j's being bit j.
 ghost use mathlib.Core.Path.{_≡_};
-ghost use Prim.Native.Nat.{_-_, _^_, _≤_, _<_};
+ghost use Prim.Native.Nat.{_+_, _-_, _*_, _^_, _≤_, _<_};
 ghost use Rattle.evex.specs.Bits.{isSet};
+ghost use Rattle.evex.proofs.Bounds.{Bounds};
 ghost use Rattle.machine.specs.Memory.{isOn};
 ghost use Rattle.step.specs.Work.{keptBy};
+use evex::Instruction;
 
 pub(crate) fn has(lanes: u32, j: usize) -> bool
     requires { ⌜ j < 32 ⌝ }
@@ -14,7 +16,7 @@ pub(crate) fn has(lanes: u32, j: usize) -> bool
 
 // One more than the highest lane of a set, 0 where it has none. Loops end there.
 pub(crate) fn end_of(lanes: u32) -> usize
-    ensures { λ r. ⌜ (lanes < 2 ^ r) × (r ≤ 32) ⌝ }
+    ensures { λ r. ⌜ (lanes < 2 ^ r) × (r ≤ 32) × (2 ^ r ≤ 2 * lanes + 1) ⌝ }
 {
     (32 - u32::leading_zeros(lanes)) as usize
 }
@@ -39,12 +41,12 @@ pub(crate) fn lanes_on(masks: &[u64; 8], mask: usize, elements: usize) -> u32
 }
 
 // R5.9: the lanes that are off and keep their half.
-pub(crate) fn lanes_kept(on: u32, elements: usize, zeroing: bool) -> u32
-    requires { ⌜ elements ≤ 32 ⌝ }
-    ensures { λ r. ⌜ isSet r ≡ keptBy (isSet on) elements zeroing ⌝ }
+pub(crate) fn lanes_kept(on: u32, i: Instruction) -> u32
+    requires { ⌜ Bounds i ⌝ }
+    ensures { λ r. ⌜ isSet r ≡ keptBy (isSet on) i ⌝ }
 {
-    if zeroing {
+    if i.zeroing {
         return 0;
     }
-    (on ^ u32::MAX) & below(elements)
+    (on ^ u32::MAX) & below(i.elements)
 }

@@ -3,7 +3,7 @@ ghost use mathlib.Core.Path.{_≡_};
 ghost use Prim.Native.Nat.{_+_, _*_, _/_, _%_, _<_};
 ghost use lib.ListN.{length, set};
 ghost use Rattle.evex.specs.Bits.{isSet};
-ghost use Rattle.machine.specs.Lanes.{newRegister, vectorsWith};
+ghost use Rattle.machine.specs.Lanes.{computed, newRegister, vectorsWith};
 ghost use Rattle.step.specs.Work.{keptOr};
 use super::mask::end_of;
 use super::mask::has;
@@ -20,7 +20,7 @@ fn high_byte(half: u16) -> u8
     (half / 256) as u8
 }
 
-// The register's lane j.
+// Writes lane j of a register.
 fn store_half(register: &mut [u8], half: u16, j: usize)
     requires { ⌜ (length (now register) ≡ 64) × (j < 32) ⌝ }
     ensures { λ _. ⌜ now (register .exit) ≡ set (set (now (register .entry)) (2 * j) (half % 256)) (2 * j + 1) (half / 256 % 256) ⌝ }
@@ -30,17 +30,17 @@ fn store_half(register: &mut [u8], half: u16, j: usize)
     register[at + 1] = high_byte(half);
 }
 
-// No lane is kept.
+// Writes every lane.
 fn store_all(register: &mut [u8], halves: [u16; 32])
     requires { ⌜ length (now register) ≡ 64 ⌝ }
-    ensures { λ _. ⌜ now (register .exit) ≡ newRegister (keptOr (isSet 0) 0) (now (register .entry)) halves ⌝ }
+    ensures { λ _. ⌜ now (register .exit) ≡ newRegister (λ j. computed) (now (register .entry)) halves ⌝ }
 {
     for j in 0..32 {
         store_half(register, halves[j], j);
     }
 }
 
-// Those above the last that is written are left without a look.
+// Writes the lanes that are not kept. The loop ends behind the last of them.
 fn store_some(register: &mut [u8], kept: u32, halves: [u16; 32])
     requires { ⌜ length (now register) ≡ 64 ⌝ }
     ensures { λ _. ⌜ now (register .exit) ≡ newRegister (keptOr (isSet kept) 0) (now (register .entry)) halves ⌝ }
@@ -54,7 +54,7 @@ fn store_some(register: &mut [u8], kept: u32, halves: [u16; 32])
     }
 }
 
-// A register by itself: a file of one register.
+// The register lent is number 0 of the contract, as if it were a file by itself.
 fn store_lanes(register: &mut [u8], kept: u32, halves: [u16; 32])
     requires { ⌜ length (now register) ≡ 64 ⌝ }
     ensures { λ _. ⌜ now (register .exit) ≡ newRegister (keptOr (isSet kept) 0) (now (register .entry)) halves ⌝ }
@@ -68,7 +68,7 @@ fn store_lanes(register: &mut [u8], kept: u32, halves: [u16; 32])
 
 pub(crate) fn store(vectors: &mut [u8], n: usize, kept: u32, halves: [u16; 32])
     requires { ⌜ (length (now vectors) ≡ 2048) × (n < 32) ⌝ }
-    ensures { λ _. ⌜ now (vectors .exit) ≡ vectorsWith (keptOr (isSet kept) n) halves n (now (vectors .entry)) ⌝ }
+    ensures { λ _. ⌜ now (vectors .exit) ≡ vectorsWith (keptOr (isSet kept) n) (now (vectors .entry)) halves n ⌝ }
 {
     let at = n * 64;
     let end = at + 64;

@@ -1,7 +1,5 @@
 -- `evex::decode` meets its contract: each `return` is a law of Order.antt, at what the tests before it have shown.
 use native.Mathlib.Omega.{arith}
-use mir.Syntax.{w32}
-use mir.Facts.{toZ-ofZ}
 use mathlib.Core.Path.{sym, _∙_}
 use denote.Ref.{now}
 use Rattle.evex.proofs.Order.{Begun, Headed, Rowed, no-bytes, first-byte, few-bytes, fixed-bits, unlisted, reserved, missing}
@@ -89,22 +87,14 @@ returns-7 c = missing (rowed (c .before .before)) (c .before .size .ensures) (c 
 returns-8 : tie.Need-returns-8
 returns-8 c = too-long (rowed (c .before .before .before)) (c .before .before .size .ensures) (c .before .if6 .left) (c .if7 .taken)
 
-displacement-requires : tie.Need-displacement-requires
-displacement-requires c κs = search needs
-
 instruction-requires : tie.Need-instruction-requires
 instruction-requires c κs = search needs
 
 returns-9 : tie.Need-returns-9
 returns-9 c =
-    let size = c .before .before .before .before .size in
-    rw (
-      c .instruction .ensures,
-      toZ-ofZ {w = w32} {z = c .before .displacement .result} (record { sfits = c .before .displacement .ok }),
-      c .before .displacement .ensures,
-    )
-    (accepted (rowed (c .before .before .before .before .before)) (size .ensures) (c .before .before .before .if6 .left)
-    (c .before .before .if7 .left))
+    let size = c .before .before .before .size in
+    rw (c .instruction .ensures)
+    (accepted (rowed (c .before .before .before .before)) (size .ensures) (c .before .before .if6 .left) (c .before .if7 .left))
 
 pub decode-spec : {M : Type 1} → statement M
 decode-spec =
@@ -126,6 +116,5 @@ decode-spec =
     size-requires
     returns-7
     returns-8
-    displacement-requires
     instruction-requires
     returns-9)

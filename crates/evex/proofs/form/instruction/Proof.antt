@@ -1,4 +1,5 @@
 -- `evex::form::instruction` meets its contract: field by field.
+use mir.Syntax.{w32}
 use mir.Facts.{toZ-ofZ}
 use Rattle.evex.specs.Fields.{instruction}
 use borrow.Author.Needs.{needs}
@@ -17,14 +18,17 @@ rounding-requires c κs = search needs
 first-requires : tie.Need-first-requires
 first-requires c κs = search needs
 
+displacement-requires : tie.Need-displacement-requires
+displacement-requires c κs = search needs
+
 second-requires : tie.Need-second-requires
 second-requires c κs = search needs
 
 elements-requires : tie.Need-elements-requires
 elements-requires c κs = search needs
 
-cast-t10 : tie.Need-cast-t10
-cast-t10 c = search needs
+cast-t11 : tie.Need-cast-t11
+cast-t11 c = search needs
 
 has-z-requires : tie.Need-has-z-requires
 has-z-requires c κs = search needs
@@ -41,20 +45,20 @@ size-requires c κs = search needs
 returns : tie.Need-returns
 unfolding instruction
 returns c =
-    let second = c .before .before .before .before .before .second in
-    let shape = c .before .before .before .before .before .before .before .before .shape in
+    let placed : tie.After-displacement = c .before .before .before .before .before .before in
     rw (
-      c .before .before .before .before .before .before .before .before .before .operation .ensures,
-      shape .ensures,
-      c .before .before .before .before .before .before .before .rounding .ensures,
-      c .before .before .before .before .before .before .first .ensures,
-      second .ensures,
+      placed .before .before .before .before .operation .ensures,
+      placed .before .before .before .shape .ensures,
+      placed .before .before .rounding .ensures,
+      placed .before .first .ensures,
+      c .before .before .before .before .before .second .ensures,
+      toZ-ofZ {w = w32} {z = placed .displacement .result} (record { sfits = placed .displacement .ok }),
+      placed .displacement .ensures,
       c .before .before .before .before .elements .ensures .0,
       c .before .before .before .has-z .ensures,
       c .before .before .mask .ensures,
       c .before .destination .ensures,
       c .size .ensures,
-      toZ-ofZ (c .before .before .before .before .before .before .before .before .before .before .fits .displacement),
     )
 
 pub instruction-spec : {M : Type 1} → statement M
@@ -65,9 +69,10 @@ instruction-spec =
     shape-requires
     rounding-requires
     first-requires
+    displacement-requires
     second-requires
     elements-requires
-    cast-t10
+    cast-t11
     has-z-requires
     mask-requires
     destination-requires

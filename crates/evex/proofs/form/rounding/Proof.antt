@@ -4,8 +4,8 @@ use borrow.Author.Needs.{needs}
 use Rattle.evex.proofs.form.rounding.Statement.{statement}
 use Rattle.evex.proofs.form.rounding.Tie as tie
 
-has-full-length-requires : tie.Need-has-full-length-requires
-has-full-length-requires c κs = search needs
+has-register-b-requires : tie.Need-has-register-b-requires
+has-register-b-requires c κs = search needs
 
 length-bits-requires : tie.Need-length-bits-requires
 length-bits-requires c κs = search needs
@@ -20,7 +20,7 @@ returns : tie.Need-returns
 unfolding rounding
 returns c =
     rw (
-      ← c .before .before .before .has-full-length .ensures,
+      ← c .before .before .before .has-register-b .ensures,
       c .before .before .if1 .taken,
       c .of-bits .ensures,
       c .before .length-bits .ensures,
@@ -28,8 +28,8 @@ returns c =
 
 returns-2 : tie.Need-returns-2
 unfolding rounding
-returns-2 c = rw (← c .before .has-full-length .ensures, c .if1 .left)
+returns-2 c = rw (← c .before .has-register-b .ensures, c .if1 .left)
 
 pub rounding-spec : {M : Type 1} → statement M
 rounding-spec =
-    tie.close (tie.spec has-full-length-requires length-bits-requires cast-of-bits of-bits-requires returns returns-2)
+    tie.close (tie.spec has-register-b-requires length-bits-requires cast-of-bits of-bits-requires returns returns-2)

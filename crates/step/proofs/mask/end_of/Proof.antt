@@ -1,4 +1,4 @@
--- `step::mask::end_of` meets its contract: a number has as many digits as it has leading zeros less than 32.
+-- `step::mask::end_of` meets its contract: of 32 digits those that are no leading zeros.
 use native.Mathlib.Omega.{arith}
 use mathlib.Core.Path.{_≡_}
 use Prim.Native.Nat.{_-_}
@@ -17,7 +17,7 @@ returns : tie.Need-returns
 returns c =
     let length = leading-length 32 (c .args .lanes) (c .fits .lanes .fits) in
     let end : 32 - leadingZeros 32 (c .args .lanes) ≡ length .0 = omega (arith, length .1) in
-    (rw end (length .2), omega arith)
+    (rw end (length .2), omega arith, rw end (length .3))
 
 pub end-of-spec : {M : Type 1} → statement M
 end-of-spec = tie.close (tie.spec sub-result cast-result returns)

@@ -5,15 +5,15 @@ use Rattle.step.proofs.mask.lanes_kept.Statement.{statement}
 use Rattle.step.proofs.mask.lanes_kept.Tie as tie
 
 returns : tie.Need-returns
-returns c = rw (c .if1 .taken) (kept-none (c .before .args .on) (c .before .args .elements))
+returns c = kept-none (c .before .args .on) (c .before .args .i) (c .if1 .taken)
 
 below-requires : tie.Need-below-requires
 below-requires c κs = search needs
 
 returns-2 : tie.Need-returns-2
 returns-2 c =
-    rw (c .below .ensures, c .before .if1 .left)
-    (kept-some (c .before .before .args .on) (c .before .before .args .elements) (c .before .before .pre))
+    let start : tie.Start = c .before .before in
+    rw (c .below .ensures) (kept-some (start .args .on) (start .args .i) (start .pre .elements) (c .before .if1 .left))
 
 pub lanes-kept-spec : {M : Type 1} → statement M
 lanes-kept-spec = tie.close (tie.spec returns below-requires returns-2)

@@ -1,17 +1,16 @@
 -- `step::store::store_all` meets its contract: the loop fills the register by two bytes a lane: see proofs/Stored.antt.
-use mathlib.Core.Path.{sym, _∙_}
+use mathlib.Core.Path.{refl, sym, _∙_}
+use mathlib.Core.Bool.{false}
 use Prim.Native.Nat.{_*_, _-_}
 use native.Mathlib.Omega.{arith}
-use Rattle.evex.specs.Bits.{isSet}
 use Rattle.machine.specs.Lanes.{newRegister}
 use Rattle.step.proofs.Filling.{Filled, none, all}
-use Rattle.step.proofs.Sets.{no-bit}
 use Rattle.step.proofs.Stored.{byteOf, stores}
 use Rattle.step.proofs.store.store_all.Statement.{statement}
 use Rattle.step.proofs.store.store_all.Tie as tie
 
 abbrev Inv-loop : tie.InvT-loop
-Inv-loop register₀ halves j₀ register j = Filled (byteOf (isSet 0) halves 0 register₀) 64 register₀ register (2 * j)
+Inv-loop register₀ halves j₀ register j = Filled (byteOf (λ j. false) halves 0 register₀) 64 register₀ register (2 * j)
 
 abbrev μ-loop : tie.MeasureT-loop
 μ-loop register₀ halves j₀ register j = 32 - j
@@ -39,7 +38,7 @@ loop-again c =
     let stored : tie.After-store-half Inv-loop μ-loop = c .before .before in
     let turn : tie.At-loop Inv-loop μ-loop = stored .before .before .before in
     let args = turn .before .before .args in
-    stores (isSet 0) (args .t2) (args .register .now) (turn .loop .j) (turn .loop .inv) (omega arith) (no-bit (turn .loop .j))
+    stores (λ j. false) (args .t2) (args .register .now) (turn .loop .j) (turn .loop .inv) (omega arith) refl
     (stored .store-half .ensures)
 
 same-length : tie.Need-same-length Inv-loop μ-loop

@@ -1,4 +1,6 @@
 -- `step::store::store_lanes` meets its contract: all lanes, or those that are not kept.
+use mathlib.Core.Path.{_∙_}
+use Rattle.step.proofs.Stored.{none-kept}
 use borrow.Author.Needs.{needs}
 use Rattle.step.proofs.store.store_lanes.Statement.{statement}
 use Rattle.step.proofs.store.store_lanes.Tie as tie
@@ -10,7 +12,7 @@ same-length : tie.Need-same-length
 same-length c = search needs
 
 returns : tie.Need-returns
-returns c = rw (c .before .before .before .before .if1 .taken) (c .before .before .store-all .ensures)
+returns c = c .before .before .store-all .ensures ∙ none-kept _ _ _ (c .before .before .before .before .if1 .taken)
 
 store-some-requires : tie.Need-store-some-requires
 store-some-requires c κs = search needs
