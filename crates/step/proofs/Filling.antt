@@ -1,8 +1,8 @@
 -- Loops over the indices 0, 1, .., one at each turn: what stands in a list, in or-ed flags or in a test after j turns. A loop may end early,
 -- where nothing is left to do.
 -- Assumes nothing.
-use Prim.Native.Nat.{ℕ, suc, _+_, _<_, _≤_}
-use mathlib.Core.Path.{_≡_, refl, sym, _∙_}
+use Prim.Native.Nat.{ℕ, _+_, _<_, _≤_}
+use mathlib.Core.Path.{_≡_, refl, sym, ap, _∙_}
 use mathlib.Core.Bool.{Bool, true, false, _||_, _&&_, true≢false, or-false, and-false}
 use mathlib.Core.List.{List, [], _∷_}
 use native.Mathlib.Decide.{decLt, le-ind}
@@ -67,6 +67,10 @@ module _ {f : ℕ → ℕ} {n : ℕ} {d l : List ℕ} {j : ℕ} (F : Filled f n 
             | no y ↦ let g : j ≤ k = omega arith in F .left k g ∙ rest k g m
           ]
 
+-- what no index from j on changes
+stays : {A : Type 0} (g : ℕ → A) (j n : ℕ) → j ≤ n → ((i : ℕ) → j ≤ i → g (i + 1) ≡ g i) → g n ≡ g j
+stays g j n h same = le-ind (λ (i : ℕ). g i ≡ g j) refl (λ i k e. ap g (sym (add-one i)) ∙ same i k ∙ e) n h
+
 -- the flags of the indices passed, or-ed
 pub record Ored (f : ℕ → ℕ) (x j : ℕ) : Type 0 where
   pub is : x ≡ orAll (table j f)
@@ -83,10 +87,9 @@ module _ {f : ℕ → ℕ} {x j : ℕ} (O : Ored f x j) where
   or-same e = record { is = O .is ∙ sym (or-next j f ∙ rw (e, or-zero-r (orAll (table j f)))) }
 
   pub or-all : {n : ℕ} → j ≤ n → ((k : ℕ) → j ≤ k → f k ≡ 0) → x ≡ orAll (table n f)
-  or-all {n} h rest = O .is ∙ sym (le-ind (λ (i : ℕ). orAll (table i f) ≡ orAll (table j f)) refl next n h)
-    where
-      next : (i : ℕ) → j ≤ i → orAll (table i f) ≡ orAll (table j f) → orAll (table (suc i) f) ≡ orAll (table j f)
-      next i k e = rw (← add-one i, or-next i f, rest i k, or-zero-r (orAll (table i f))) e
+  or-all {n} h rest =
+      O .is
+      ∙ sym (stays (λ (i : ℕ). orAll (table i f)) j n h (λ i k. or-next i f ∙ rw (rest i k, or-zero-r (orAll (table i f)))))
 
 -- whether a test held of some index passed
 pub record Found (n : ℕ) (p : ℕ → Bool) (x : Bool) (j : ℕ) : Type 0 where
@@ -102,11 +105,10 @@ module _ {n : ℕ} {p : ℕ → Bool} {x : Bool} {j : ℕ} (F : Found n p x j) w
   found-more h e = record { within = omega arith; is = rw (F .is, e) (sym (some-next p j (λ k. k))) }
 
   pub found-all : ((k : ℕ) → j ≤ k → p k ≡ false) → x ≡ some p (table n (λ k. k))
-  found-all rest = F .is ∙ sym (le-ind (λ (i : ℕ). some p (table i (λ k. k)) ≡ some p (table j (λ k. k))) refl next n (F .within))
-    where
-      next : (i : ℕ) → j ≤ i → some p (table i (λ k. k)) ≡ some p (table j (λ k. k))
-          → some p (table (suc i) (λ k. k)) ≡ some p (table j (λ k. k))
-      next i k e = rw (← add-one i, some-next p i (λ k. k), rest i k, or-false (some p (table i (λ k. k)))) e
+  found-all rest =
+      F .is
+      ∙ sym (stays (λ (i : ℕ). some p (table i (λ k. k))) j n (F .within)
+      (λ i k. some-next p i (λ k. k) ∙ rw (rest i k, or-false (some p (table i (λ k. k))))))
 
 -- a test that no index can pass
 pub nowhere-off : (p : ℕ → Bool) (l : List ℕ) → some (λ j. p j && false) l ≡ false
