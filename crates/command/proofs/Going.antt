@@ -9,10 +9,11 @@ use lib.ListN.{length, take, drop, length-drop}
 use lib.Seq.{take-all}
 use Rattle.machine.specs.State.{State, Stepped}
 use Rattle.machine.specs.Step.{step}
+use Rattle.machine.specs.Answers.{Sized}
+use Rattle.machine.proofs.Answers.{lengths}
 use Rattle.command.specs.Command.{stepLine, stopLine, room}
 use Rattle.command.specs.Put.{Put}
 use Rattle.command.proofs.Writing.{none, followed}
-use Rattle.command.proofs.Sizes.{Moves, moves}
 use Rattle.command.proofs.Lines.{lines, at-end, goes-on, stops, step-most, step-short}
 
 -- a part that is lent to its end
@@ -24,7 +25,7 @@ pub record Going (memory code : List ℕ) (s₀ : State) (out₀ : List ℕ) (s 
   pub put : Put text out₀ 0 at out
   pub rest : text ++ lines memory code s offset ≡ lines memory code s₀ 0
   pub place : 3 * at ≤ 8 * offset
-  pub near : offset ≤ 4107
+  pub near : offset ≤ 4096
   pub size : length out ≡ length out₀
   pub file : length (s .vectors) ≡ length (s₀ .vectors)
 
@@ -38,8 +39,12 @@ module _ {memory code : List ℕ} {s₀ : State} {out₀ : List ℕ} {s : State}
       → Put (lines memory code s₀ 0) out₀ 0 r after
   ends h p = rw (← g .rest, at-end memory code s offset h) (followed (omega arith) (g .put) p)
 
-  pub moved : {o : Stepped} → o ≡ step memory s (drop offset code) → Moves o
-  moved e = rw e (moves memory s (drop offset code))
+  -- a step that is done ends inside the code
+  pub moved : {o : Stepped} → o ≡ step memory s (drop offset code) → offset < length code → o .answer .number ≡ 0
+      → (6 ≤ o .answer .length) × (offset + o .answer .length ≤ length code)
+  moved {o} e inside z =
+      let l : Sized (drop offset code) o = rw e (lengths memory s (drop offset code)) in
+      (l z .0, omega (arith, l z, length-drop offset code))
 
   module _ {o : Stepped} {next : ℕ} {after : List ℕ} (e : o ≡ step memory s (drop offset code)) (inside : offset < length code)
       (p : Put (stepLine offset (o .answer .number) (o .state .control)) out at next after) where
@@ -61,8 +66,8 @@ module _ {memory code : List ℕ} {s₀ : State} {out₀ : List ℕ} {s : State}
             text = g .text ++ stepLine offset (o .answer .number) (o .state .control);
             put = followed (omega arith) (g .put) p;
             rest = rw append-assoc (ap (λ (l : List ℕ). g .text ++ l) (sym (goes-on memory code s offset e inside z)) ∙ g .rest);
-            place = omega (arith, moved e z, p .place, g .place, step-short offset (o .answer .number) (o .state .control) (omega arith) z);
-            near = omega (arith, moved e z);
+            place = omega (arith, moved e inside z, p .place, g .place, step-short offset (o .answer .number) (o .state .control) (omega arith) z);
+            near = omega (arith, moved e inside z);
             size = kept ∙ g .size;
             file = f ∙ g .file;
           }

@@ -1,6 +1,5 @@
 pub mod Writing
 pub mod Digits
-pub mod Sizes
 pub mod Lines
 pub mod Going
 pub mod Input

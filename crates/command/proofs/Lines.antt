@@ -10,9 +10,9 @@ use lib.Dec.{eqb}
 use lib.ListN.{length, drop, length-append}
 use Rattle.machine.specs.State.{State, Stepped}
 use Rattle.machine.specs.Step.{step}
+use Rattle.machine.proofs.Answers.{lengths}
 use Rattle.command.specs.Command.{stepLine, stopLine, linesFrom}
 use Rattle.command.proofs.Digits.{decimal-most, decimal-short, hex-eight}
-use Rattle.command.proofs.Sizes.{moves}
 
 where-true : (t : Bool) (z : List ℕ) {x y : List ℕ} → (t ≡ true → x ≡ y) → cond t x z ≡ cond t y z
 where-true true z h = h refl
@@ -29,7 +29,7 @@ module _ (memory code : List ℕ) where
   enough (suc n) (suc m) s at h k =
       let o : Stepped = step memory s (drop at code) in
       rw (where-true (eqb (o .answer .number) 0) (stopLine at)
-      (λ e. let z : (6 ≤ o .answer .length) × (o .answer .length ≤ 11) = moves memory s (drop at code) (eqb-true _ 0 e) in
+      (λ e. let z : 6 ≤ o .answer .length = lengths memory s (drop at code) (eqb-true _ 0 e) .0 in
       enough n m (o .state) (at + o .answer .length) (omega arith) (omega arith)))
 
   -- all lines from an offset on

@@ -7,13 +7,13 @@ use mathlib.Core.List.{List, [], _∷_, _++_, append-assoc, append-nil}
 use native.Mathlib.Omega.{arith}
 use borrow.Author.Tests.{leb-true, leb-false, eqb-true, eqb-false}
 use lib.Dec.{eqb, leb}
-use lib.ListN.{length, drop, length-append, length-take}
+use lib.ListN.{length, drop, length-append, length-drop, length-take}
 use Rattle.machine.specs.State.{State, Stepped}
 use Rattle.machine.specs.Step.{step, run}
+use Rattle.machine.proofs.Answers.{lengths}
 use Rattle.command.specs.Command.{stepLine, stopLine, linesFrom, badInput, codeOf, memoryOf, startOf, isLaidOut, isGood, printed}
 use Rattle.command.specs.Command.{room}
 use Rattle.command.specs.Runs.{ended, stopped, done, Runs, Prints}
-use Rattle.command.proofs.Sizes.{moves}
 use Rattle.command.proofs.Lines.{stop-most, step-most, step-short}
 use Rattle.command.proofs.Input.{LaidOut, laid-out, both}
 
@@ -40,7 +40,7 @@ module _ (memory code : List ℕ) where
   runs-from zero s at h = let e : length code ≤ at = omega arith in record { offsets = []; end = at; course = ended e; lines = refl }
   runs-from (suc n) s at h =
       go (leb (length code) at) (eqb (at-offset s at .answer .number) 0) refl refl
-      (λ z. runs-from n (at-offset s at .state) (at + at-offset s at .answer .length) (omega (arith, moves memory s (drop at code) z)))
+      (λ z. runs-from n (at-offset s at .state) (at + at-offset s at .answer .length) (omega (arith, lengths memory s (drop at code) z)))
     where
       go : (t d : Bool) → leb (length code) at ≡ t → eqb (at-offset s at .answer .number) 0 ≡ d
           → (at-offset s at .answer .number ≡ 0
@@ -56,22 +56,23 @@ module _ (memory code : List ℕ) where
       go false true e f later = continued (leb-false _ _ e) (eqb-true _ 0 f) (later (eqb-true _ 0 f))
 
   -- 16 bytes for 6 of code, and the last two lines
-  lines-fit : (n : ℕ) (s : State) (at : ℕ) → length code ≤ 4096 → at ≤ 4107
-      → 3 * length (linesFrom n memory code s at) + 8 * at ≤ 3 * 77 + 8 * 4107
+  lines-fit : (n : ℕ) (s : State) (at : ℕ) → length code ≤ 4096 → at ≤ 4096
+      → 3 * length (linesFrom n memory code s at) + 8 * at ≤ 3 * 77 + 8 * 4096
   unfolding linesFrom
   lines-fit zero s at h k = omega (arith, stop-most at)
   lines-fit (suc n) s at h k =
       go (leb (length code) at) (eqb (at-offset s at .answer .number) 0) refl refl
-      (λ z w. lines-fit n (at-offset s at .state) (at + at-offset s at .answer .length) h (omega (arith, moves memory s (drop at code) z)))
+      (λ z w. lines-fit n (at-offset s at .state) (at + at-offset s at .answer .length) h
+      (omega (arith, lengths memory s (drop at code) z, length-drop at code)))
     where
       go : (t d : Bool) → leb (length code) at ≡ t → eqb (at-offset s at .answer .number) 0 ≡ d
           → (at-offset s at .answer .number ≡ 0 → at < length code
           → 3 * length (linesFrom n memory code (at-offset s at .state) (at + at-offset s at .answer .length)) + 8 *
-          (at + at-offset s at .answer .length) ≤ 3 * 77 + 8 * 4107)
+          (at + at-offset s at .answer .length) ≤ 3 * 77 + 8 * 4096)
           → 3 * length (cond t (stopLine at)
           (stepLine at (at-offset s at .answer .number) (at-offset s at .state .control)
           ++ cond d (linesFrom n memory code (at-offset s at .state) (at + at-offset s at .answer .length)) (stopLine at))) + 8 * at
-          ≤ 3 * 77 + 8 * 4107
+          ≤ 3 * 77 + 8 * 4096
       go true d e f later = omega (arith, stop-most at)
       go false false e f later =
           simp length-append (omega (arith, stop-most at, step-most at (at-offset s at .answer .number) (at-offset s at .state .control)))
@@ -79,7 +80,7 @@ module _ (memory code : List ℕ) where
           let z : at-offset s at .answer .number ≡ 0 = eqb-true _ 0 f in
           let short : length (stepLine at (at-offset s at .answer .number) (at-offset s at .state .control)) ≤ 16 =
           step-short at _ _ (omega arith) z in
-          simp length-append (omega (arith, later z (leb-false _ _ e), moves memory s (drop at code) z))
+          simp length-append (omega (arith, later z (leb-false _ _ e), lengths memory s (drop at code) z))
 
 runs : (input : List ℕ) → isGood input ≡ true → Runs (memoryOf input) (codeOf input) (startOf input) 0 (printed input)
 unfolding printed

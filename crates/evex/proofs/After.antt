@@ -1,14 +1,15 @@
--- R4.18: whatever follows an instruction's last byte, the same is decoded.
+-- R4.18: whatever follows an instruction's last byte, the same is decoded; and by the first 11 bytes alone, be it an instruction or not.
 -- Assumes nothing.
 use mathlib.Core.Path.{_≡_, refl, sym, ap, subst, _∙_}
 use mathlib.Core.Bool.{Bool, true, false, cond}
 use mathlib.Core.List.{List, [], _∷_, _++_, map}
 use Prim.Native.Nat.{ℕ, _+_, _≤_, _<_}
 use native.Mathlib.Omega.{arith}
-use borrow.Author.Tests.{ne-eqb, le-ltb, ltb-false, eqb-true}
-use lib.Dec.{eqb}
+use native.Mathlib.Nat.{le-refl, le-of-lt, le-trans, lt-of-lt-of-le}
+use borrow.Author.Tests.{ne-eqb, le-ltb, ltb-false, leb-true, leb-false, eqb-true}
+use lib.Dec.{eqb, leb, lit≤}
 use lib.ListN.{length, take, List·getD-append, length-append}
-use lib.Seq.{getD-take, length-take-le}
+use lib.Seq.{getD-take, length-take-le, take-all}
 use Rattle.lists.specs.Lists.{firstOf, NoneHolds}
 use Rattle.lists.proofs.First.{none-append}
 use Rattle.evex.specs.Bits.{byte}
@@ -24,7 +25,7 @@ use Rattle.evex.specs.declared.Refusal.the-variants.{Reserved}
 use Rattle.evex.specs.declared.Decoded.{Decoded}
 use Rattle.evex.specs.declared.Decoded.the-variants.{Fields, Refused}
 use Rattle.evex.proofs.Order.{answers}
-use Rattle.evex.proofs.Bounds.{size-least}
+use Rattle.evex.proofs.Bounds.{size-least, size-most}
 
 -- ---- what is decoded, and when
 
@@ -67,99 +68,140 @@ whole code {i} e = go (listed (headOf code)) refl (passed (refusals code) _ e)
     go (Found row) f p = record { row = row; found = f; bytes = ap sizeOf (sym (p .1)); there = complete code row f (p .0) }
     go Nothing f p = absurd (subst IsFields (sym (p .1)) tt)
 
--- ---- the bytes up to the end, and others behind them
+pub all-there : (code : List ℕ) {i : Instruction} → decoded code ≡ Fields i → i .size ≤ length code
+all-there code e = let w = whole code e in rw (w .bytes) (w .there)
 
-module _ (code rest : List ℕ) (row : Row) (whole : size (headOf code) row ≤ length code) where
-  abbrev n : ℕ
-  n = size (headOf code) row
+-- ---- two codes with the same first bytes
 
-  abbrev other : List ℕ
-  other = take n code ++ rest
-
+-- n bytes of both, with the SIB byte among them where there is one
+record Same (code other : List ℕ) (n : ℕ) : Type 0 where
   six : 6 ≤ n
-  six = size-least (headOf code) row
-
-  long : n ≤ length other
-  long = omega (arith, length-append (take n code) rest, length-take-le n code whole)
-
-  same-byte : (k : ℕ) → k < n → byte other k ≡ byte code k
-  same-byte k l = List·getD-append (take n code) rest 0 k (omega (arith, length-take-le n code whole)) ∙ getD-take n code k 0 l
-
   seven : takesSib (byte code 5) ≡ true → 7 ≤ n
-  unfolding size displacementAt hasSib headOf
-  seven e = rw e (omega arith)
+  there : n ≤ length code
+  there-other : n ≤ length other
+  bytes : (k : ℕ) → k < n → byte other k ≡ byte code k
+
+module _ {code other : List ℕ} {n : ℕ} (same : Same code other n) where
+  same-byte : (k : ℕ) → k < 6 → byte other k ≡ byte code k
+  same-byte k l = same .bytes k (lt-of-lt-of-le l (same .six))
 
   same-sib : cond (takesSib (byte code 5)) (byte other 6) 0 ≡ cond (takesSib (byte code 5)) (byte code 6) 0
   same-sib = go (takesSib (byte code 5)) refl
     where
       go : (t : Bool) → takesSib (byte code 5) ≡ t → cond t (byte other 6) 0 ≡ cond t (byte code 6) 0
-      go true e = same-byte 6 (seven e)
+      go true e = same .bytes 6 (same .seven e)
       go false e = refl
 
   same-head : headOf other ≡ headOf code
   unfolding headOf
   same-head =
       rw (
-        same-byte 1 (omega (arith, six)),
-        same-byte 2 (omega (arith, six)),
-        same-byte 3 (omega (arith, six)),
-        same-byte 4 (omega (arith, six)),
-        same-byte 5 (omega (arith, six)),
+        same-byte 1 (lit≤ tt),
+        same-byte 2 (lit≤ tt),
+        same-byte 3 (lit≤ tt),
+        same-byte 4 (lit≤ tt),
+        same-byte 5 (lit≤ tt),
         same-sib,
       )
 
-  abbrev at : ℕ
-  at = displacementAt (headOf code)
-
-  inside : (k m : ℕ) → displacementSize (headOf code) ≡ m → k < m → at + k < n
-  unfolding size
-  inside k m e l = omega arith
-
-  same-displacement : displacementOf (headOf code) row other ≡ displacementOf (headOf code) row code
-  unfolding displacementOf
-  same-displacement = go (eqb (displacementSize (headOf code)) 1) (eqb (displacementSize (headOf code)) 4) refl refl
-    where
-      go : (one four : Bool) → eqb (displacementSize (headOf code)) 1 ≡ one → eqb (displacementSize (headOf code)) 4 ≡ four
-          → displacementOf (headOf code) row other ≡ displacementOf (headOf code) row code
-      go true four e f =
-          let s : displacementSize (headOf code) ≡ 1 = eqb-true _ _ e in rw (e, same-byte at (omega (arith, inside 0 1 s (omega arith))))
-      go false true e f =
-          let s : displacementSize (headOf code) ≡ 4 = eqb-true _ _ f in
-          rw (
-            e,
-            f,
-            same-byte at (omega (arith, inside 0 4 s (omega arith))),
-            same-byte (at + 1) (inside 1 4 s (omega arith)),
-            same-byte (at + 2) (inside 2 4 s (omega arith)),
-            same-byte (at + 3) (inside 3 4 s (omega arith)),
-          )
-      go false false e f = rw (e, f)
-
-  -- the conditions are the same, whether or not they hold, but for those on the number of bytes, which hold of neither
-  same-refusals : listed (headOf code) ≡ Found row → refusals other ≡ refusals code
-  unfolding refusals headConditions rowConditions noBytes wrongFirstByte fewerThanSixBytes bytesMissing
-  same-refusals found =
+  -- those on the number of bytes hold of neither
+  same-head-conditions : headConditions other ≡ headConditions code
+  unfolding headConditions noBytes wrongFirstByte fewerThanSixBytes
+  same-head-conditions =
       rw (
         same-head,
-        found,
-        same-byte 0 (omega (arith, six)),
-        ne-eqb (length other) 0 (λ e. omega (arith, six, long)),
-        ne-eqb (length code) 0 (λ e. omega (arith, six, whole)),
-        le-ltb (length other) 6 (omega (arith, six, long)),
-        le-ltb (length code) 6 (omega (arith, six, whole)),
-        le-ltb (length other) n long,
-        le-ltb (length code) n whole,
+        same-byte 0 (lit≤ tt),
+        ne-eqb (length other) 0 (λ e. omega (arith, same .six, same .there-other)),
+        ne-eqb (length code) 0 (λ e. omega (arith, same .six, same .there)),
+        le-ltb (length other) 6 (le-trans (same .six) (same .there-other)),
+        le-ltb (length code) 6 (le-trans (same .six) (same .there)),
       )
 
-  same-instruction : instruction (headOf code) row other ≡ instruction (headOf code) row code
-  unfolding instruction
-  same-instruction = rw same-displacement
+  -- of a row whose instruction has no more bytes
+  module _ (row : Row) (fits : size (headOf code) row ≤ n) where
+    same-row-conditions : rowConditions (headOf code) other row ≡ rowConditions (headOf code) code row
+    unfolding rowConditions bytesMissing
+    same-row-conditions =
+        let z : ℕ = size (headOf code) row in
+        rw (le-ltb (length other) z (le-trans fits (same .there-other)), le-ltb (length code) z (le-trans fits (same .there)))
 
-  same-decoded : listed (headOf code) ≡ Found row → decoded other ≡ decoded code
-  unfolding decoded
-  same-decoded found = rw (same-refusals found, same-head, found, same-instruction)
+    abbrev at : ℕ
+    at = displacementAt (headOf code)
+
+    inside : (p m : ℕ) → displacementSize (headOf code) ≡ m → p < at + m → byte other p ≡ byte code p
+    unfolding size
+    inside p m e l = same .bytes p (omega arith)
+
+    same-displacement : displacementOf (headOf code) row other ≡ displacementOf (headOf code) row code
+    unfolding displacementOf
+    same-displacement = go (eqb (displacementSize (headOf code)) 1) (eqb (displacementSize (headOf code)) 4) refl refl
+      where
+        go : (one four : Bool) → eqb (displacementSize (headOf code)) 1 ≡ one → eqb (displacementSize (headOf code)) 4 ≡ four
+            → displacementOf (headOf code) row other ≡ displacementOf (headOf code) row code
+        go true four e f = rw (e, inside at 1 (eqb-true _ _ e) (omega arith))
+        go false true e f =
+            let s : displacementSize (headOf code) ≡ 4 = eqb-true _ _ f in
+            rw (
+              e,
+              f,
+              inside at 4 s (omega arith),
+              inside (at + 1) 4 s (omega arith),
+              inside (at + 2) 4 s (omega arith),
+              inside (at + 3) 4 s (omega arith),
+            )
+        go false false e f = rw (e, f)
+
+    same-instruction : instruction (headOf code) row other ≡ instruction (headOf code) row code
+    unfolding instruction
+    same-instruction = rw same-displacement
+
+    same-listed : listed (headOf code) ≡ Found row → decoded other ≡ decoded code
+    unfolding decoded refusals
+    same-listed found = rw (same-head, same-head-conditions, found, same-row-conditions, same-instruction)
+
+  same-unlisted : listed (headOf code) ≡ Nothing → decoded other ≡ decoded code
+  unfolding decoded refusals
+  same-unlisted found = rw (same-head, same-head-conditions, found)
+
+-- ---- other bytes behind an instruction; none behind the longest
+
+-- a SIB byte counts
+sib-size : (code : List ℕ) (row : Row) → takesSib (byte code 5) ≡ true → 7 ≤ size (headOf code) row
+unfolding size displacementAt hasSib headOf
+sib-size code row e = rw e (omega arith)
 
 pub after : (code rest : List ℕ) {i : Instruction} → decoded code ≡ Fields i → decoded (take (i .size) code ++ rest) ≡ Fields i
 after code rest e =
     let w = whole code e in
-    ap (λ (n : ℕ). decoded (take n code ++ rest)) (w .bytes) ∙ same-decoded code rest (w .row) (w .there) (w .found) ∙ e
+    let n : ℕ = size (headOf code) (w .row) in
+    let front : length (take n code) ≡ n = length-take-le n code (w .there) in
+    let same : Same code (take n code ++ rest) n =
+    record {
+      six = size-least (headOf code) (w .row);
+      seven = sib-size code (w .row);
+      there = w .there;
+      there-other = omega (arith, length-append (take n code) rest);
+      bytes = λ k l. List·getD-append (take n code) rest 0 k (omega arith) ∙ getD-take n code k 0 l;
+    } in
+    ap (λ (k : ℕ). decoded (take k code ++ rest)) (w .bytes) ∙ same-listed same (w .row) (le-refl n) (w .found) ∙ e
+
+pub enough : (code : List ℕ) (n : ℕ) → 11 ≤ n → decoded (take n code) ≡ decoded code
+enough code n room = go (leb (length code) n) refl
+  where
+    front : n < length code → Same code (take n code) n
+    front l =
+        record {
+          six = omega arith;
+          seven = λ _. omega arith;
+          there = le-of-lt l;
+          there-other = omega (arith, length-take-le n code (le-of-lt l));
+          bytes = λ k. getD-take n code k 0;
+        }
+
+    cut : Same code (take n code) n → (l : Listed) → listed (headOf code) ≡ l → decoded (take n code) ≡ decoded code
+    cut same (Found row) = same-listed same row (le-trans (size-most (headOf code) row) room)
+    cut same Nothing = same-unlisted same
+
+    go : (t : Bool) → leb (length code) n ≡ t → decoded (take n code) ≡ decoded code
+    go true e = ap decoded (take-all n code (leb-true (length code) n e))
+    go false e = cut (front (leb-false (length code) n e)) (listed (headOf code)) refl

@@ -103,9 +103,9 @@ module _ (h : Head) (row : Row) where
   unfolding elements
   elements-in = lanes-in h
 
-  size-in : size h row ≤ 11
+  pub size-most : size h row ≤ 11
   unfolding size displacementAt displacementSize
-  size-in =
+  size-most =
       add-le-add (at-most 7 (hasSib h) 7 6 (lit≤ tt) (lit≤ tt))
       (at-most 4 (eqb (modBits h) 1) 1 _ (lit≤ tt) (at-most 4 (eqb (modBits h) 2 || noBase h) 4 0 (lit≤ tt) (lit≤ tt)))
 
@@ -123,7 +123,7 @@ module _ (h : Head) (row : Row) where
         first = first-in;
         second = second-in h (displacementOf h row code);
         least = size-least;
-        size = size-in;
+        size = size-most;
       }
 
 -- ---- the whole

@@ -5,3 +5,5 @@ pub mod Order
 pub mod Answer
 pub mod Bounds
 pub mod After
+pub mod Sizes
+pub mod Short

@@ -1,5 +1,7 @@
--- What a reader opens, in this order: List is the instructions' table, Fields the fields, Decode the refusals and the whole.
+-- What a reader opens, in this order: List is the instructions' table, Fields the fields, Decode the refusals and the whole; Sizes
+-- is a theorem about them.
 pub mod Bits
 pub mod List
 pub mod Fields
 pub mod Decode
+pub mod Sizes

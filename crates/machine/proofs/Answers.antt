@@ -17,16 +17,16 @@ use Rattle.evex.specs.declared.Rounding.{Rounding}
 use Rattle.evex.specs.declared.Rounding.the-variants.{Control, Embedded}
 use Rattle.evex.specs.declared.Decoded.{Decoded}
 use Rattle.evex.specs.declared.Decoded.the-variants.{Fields, Refused}
-use Rattle.evex.proofs.After.{after}
+use Rattle.evex.proofs.After.{after, enough}
+use Rattle.evex.proofs.Sizes.{decoded-sizes}
 use Rattle.machine.specs.State.{State}
 use Rattle.machine.specs.Memory.{needsOutside}
 use Rattle.machine.specs.Lanes.{gathered, raisesUnmasked, recorded, controlAfter}
 use Rattle.machine.specs.Step.{ofFields, beforeSeven, conditions, answerOf, refused, stopped, completed, step}
-use Rattle.machine.specs.Answers.{InOrder, Leaves, Answers, BytesAfter}
-use Rattle.lists.proofs.Tests.{either}
+use Rattle.machine.specs.Answers.{InOrder, Leaves, Answers, BytesAfter, FirstBytes, NoSix, Sized, Lengths}
 use Rattle.lists.proofs.First.{NonZero}
 use Rattle.machine.proofs.First.{in-order}
-use Rattle.machine.proofs.Ends.{before-non-zero, by-decoded, Way, early, fields, way, step-early, step-decoded}
+use Rattle.machine.proofs.Ends.{before-non-zero, by-decoded, of-step}
 use Rattle.machine.proofs.Flags.{raised-below}
 
 -- ---- the order
@@ -102,17 +102,32 @@ module _ (memory : List ℕ) (s : State) where
       record { moved = λ _. refl; before = λ h _. absurd (h refl); flagged = λ e. absurd (omega arith); length = λ h. absurd (h refl) }
 
   leaves : (code : List ℕ) → Leaves s (step memory s code)
-  leaves code = go (way s code)
-    where
-      go : Way s code → Leaves s (step memory s code)
-      go (early n e h) = rw (step-early memory s code n e h) (refused-leaves s (suc n) (λ z. omega arith) (λ z. omega arith))
-      go (fields i d) =
-          rw (step-decoded memory s code d)
-          (either (Leaves s) (needsOutside s i (length memory)) (refused-leaves s 7 (λ z. omega arith) (λ z. omega arith))
-          (either (Leaves s) (raisesUnmasked s i (gathered memory s i)) (stopped-leaves i) (completed-leaves i)))
+  leaves code =
+      of-step memory s code (Leaves s) (λ n h. refused-leaves s (suc n) (λ z. omega arith) (λ z. omega arith))
+      (refused-leaves s 7 (λ z. omega arith) (λ z. omega arith))
+      (λ i d. (stopped-leaves i, completed-leaves i))
 
 pub answers : Answers
 answers memory s code = (order memory s code, leaves memory s code)
 
+-- ---- which bytes count
+
 pub bytes-after : BytesAfter
 bytes-after memory s code rest i e = by-decoded memory s code (take (i .size) code ++ rest) (after code rest e ∙ sym e)
+
+pub first-bytes : FirstBytes
+first-bytes memory s code n h = by-decoded memory s code (take n code) (enough code n h)
+
+-- ---- 6, and lengths
+
+pub no-six : NoSix
+unfolding stopped completed
+no-six memory s code =
+    of-step memory s code (λ o. o .answer .number ≢ 6) (λ n h e. omega arith) (λ e. omega arith)
+    (λ i d. ((λ e. omega arith), (λ e. omega arith)))
+
+pub lengths : Lengths
+unfolding stopped completed
+lengths memory s code =
+    of-step memory s code (Sized code) (λ n h e. absurd (omega arith)) (λ e. absurd (omega arith))
+    (λ i d. ((λ e. absurd (omega arith)), (λ _. decoded-sizes code (i .size) (i, d .1, refl))))

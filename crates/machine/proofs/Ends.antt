@@ -11,6 +11,7 @@ use borrow.Author.Tests.{eq-eqb, ne-eqb, le-leb, lt-leb, eqb-true, leb-false, no
 use lib.Dec.{eqb, lit≤}
 use lib.ListN.{length}
 use Rattle.lists.specs.Lists.{firstOf, NoneHolds}
+use Rattle.lists.proofs.Tests.{either}
 use Rattle.lists.proofs.First.{NonZero, first-append, first-found, holds-none}
 use Rattle.evex.specs.Decode.{numberOf, refusals, decoded}
 use Rattle.evex.specs.declared.Instruction.{Instruction}
@@ -19,7 +20,8 @@ use Rattle.evex.specs.declared.Refusal.the-variants.{Incomplete, Unlisted, Rese
 use Rattle.evex.specs.declared.Decoded.{Decoded}
 use Rattle.evex.specs.declared.Decoded.the-variants.{Fields, Refused}
 use Rattle.evex.proofs.Answer as evex
-use Rattle.machine.specs.State.{State}
+use Rattle.evex.proofs.Short as short
+use Rattle.machine.specs.State.{State, Stepped}
 use Rattle.machine.specs.Memory.{needsOutside}
 use Rattle.machine.specs.Lanes.{gathered, raisesUnmasked}
 use Rattle.machine.specs.Step.{ofFields, wrongVectorFile, highControlBit, outsideMemory, unmaskedException, beforeSeven, conditions}
@@ -101,7 +103,7 @@ pub by-decoded : (memory : List ℕ) (s : State) (code other : List ℕ) → dec
 unfolding step
 by-decoded memory s code other e = rw (answer memory s other, answer memory s code, before s other, before s code, e)
 
--- ---- every number is one of 1 to 6
+-- ---- every number is one of 1 to 5
 
 number-of : (r : Refusal) → numberOf r ≢ 0
 number-of Incomplete e = omega arith
@@ -120,22 +122,22 @@ before-non-zero s code = ((λ e. omega arith), ((λ e. omega arith), numbered-no
 -- ---- the two ways
 
 pub data Way (s : State) (code : List ℕ) : Type 0 where
-  early : (n : ℕ) → firstOf (beforeSeven s code) 0 ≡ suc n → n < 6 → Way s code
+  early : (n : ℕ) → firstOf (beforeSeven s code) 0 ≡ suc n → n < 5 → Way s code
   fields : (i : Instruction) → IsDecoded s code i → Way s code
 
 pub way : (s : State) (code : List ℕ) → Way s code
 way s code = go (wrongVectorFile s) (highControlBit s) (decoded code) refl refl refl
   where
-    refusal : (r : Refusal) → firstOf (beforeSeven s code) 0 ≡ numberOf r → Way s code
-    refusal Incomplete e = early 2 e (lit≤ tt)
-    refusal Unlisted e = early 3 e (lit≤ tt)
-    refusal Reserved e = early 4 e (lit≤ tt)
-    refusal TooLong e = early 5 e (lit≤ tt)
+    refusal : (r : Refusal) → decoded code ≡ Refused r → firstOf (beforeSeven s code) 0 ≡ numberOf r → Way s code
+    refusal Incomplete d e = early 2 e (lit≤ tt)
+    refusal Unlisted d e = early 3 e (lit≤ tt)
+    refusal Reserved d e = early 4 e (lit≤ tt)
+    refusal TooLong d e = absurd (short.never code d)
 
     go : (v c : Bool) (d : Decoded) → wrongVectorFile s ≡ v → highControlBit s ≡ c → decoded code ≡ d → Way s code
     go true c d e f g = early 0 (rw (before s code, e)) (lit≤ tt)
     go false true d e f g = early 1 (rw (before s code, e, f)) (lit≤ tt)
-    go false false (Refused r) e f g = refusal r (rw (before s code, e, f, g))
+    go false false (Refused r) e f g = refusal r g (rw (before s code, e, f, g))
     go false false (Fields i) e f g = fields i (holds-none (beforeSeven s code) (before-non-zero s code) (rw (before s code, e, f, g)), g)
 
 -- of what is decoded neither 1 nor 2 is given
@@ -148,7 +150,7 @@ unfolding beforeSeven highControlBit
 decoded-control s code none = leb-false (2 ^ 16) (s .control) (none .1 .0)
 
 module _ (memory : List ℕ) (s : State) (code : List ℕ) where
-  pub step-early : (n : ℕ) → firstOf (beforeSeven s code) 0 ≡ suc n → n < 6 → step memory s code ≡ refused (suc n) s
+  pub step-early : (n : ℕ) → firstOf (beforeSeven s code) 0 ≡ suc n → n < 5 → step memory s code ≡ refused (suc n) s
   step-early n e h =
       refuses memory s code (suc n) (answer memory s code ∙ first-found (beforeSeven s code) n _ e)
       (ne-eqb (suc n) 0 (λ z. omega arith)) (ne-eqb (suc n) 8 (λ z. omega arith))
@@ -171,3 +173,18 @@ module _ (memory : List ℕ) (s : State) (code : List ℕ) where
       go true t e f = refuses-memory memory s code size control (d .1) e
       go false true e f = stops memory s code size control (d .1) e f
       go false false e f = completes memory s code size control (d .1) e f
+
+  -- what holds of every end holds of a step
+  pub of-step : (P : Stepped → Type 0)
+      → ((n : ℕ) → n < 5 → P (refused (suc n) s))
+      → P (refused 7 s)
+      → ((i : Instruction) → IsDecoded s code i → P (stopped memory s i) × P (completed memory s i))
+      → P (step memory s code)
+  of-step P refuses-early refuses-seven ends = go (way s code)
+    where
+      go : Way s code → P (step memory s code)
+      go (early n e h) = rw (step-early n e h) (refuses-early n h)
+      go (fields i d) =
+          rw (step-decoded d)
+          (either P (needsOutside s i (length memory)) refuses-seven
+          (either P (raisesUnmasked s i (gathered memory s i)) (ends i d .0) (ends i d .1)))

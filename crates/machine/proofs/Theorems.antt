@@ -1,7 +1,7 @@
 -- The theorems of specs/Theorems.antt, each with its proof.
 -- Assumes nothing.
 use Rattle.machine.specs.Theorems.{Theorems}
-use Rattle.machine.proofs.Answers.{answers, bytes-after}
+use Rattle.machine.proofs.Answers.{answers, bytes-after, first-bytes, no-six, lengths}
 use Rattle.machine.proofs.OffLanes.{off-lanes}
 use Rattle.machine.proofs.TwoRuns.{two-runs}
 use Rattle.machine.proofs.Rows.{decoded-bytes, starred-rows}
@@ -11,6 +11,9 @@ theorems =
     record {
       answers = answers;
       bytesAfter = bytes-after;
+      firstBytes = first-bytes;
+      noSix = no-six;
+      lengths = lengths;
       offLanes = off-lanes;
       twoRuns = two-runs;
       decodedBytes = decoded-bytes;

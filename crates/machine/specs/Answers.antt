@@ -1,11 +1,11 @@
 -- docs/RULES.md, section 4: which answer is given, and what it leaves. The statements; their proofs are in proofs/Answers.antt.
-use Prim.Native.Nat.{ℕ, _+_, _%_, _^_, _<_}
+use Prim.Native.Nat.{ℕ, _+_, _%_, _^_, _<_, _≤_}
 use mathlib.Core.Path.{_≡_}
 use mathlib.Core.Logic.{_↔_, _≢_}
 use mathlib.Core.Bool.{Bool, true}
 use mathlib.Core.List.{List, _∷_, _++_}
 use lib.Bits.{bitOr}
-use lib.ListN.{take}
+use lib.ListN.{length, take}
 use Rattle.lists.specs.Lists.{NoneHolds}
 use Rattle.evex.specs.Decode.{decoded}
 use Rattle.evex.specs.declared.Instruction.{Instruction}
@@ -59,3 +59,19 @@ abbrev pub BytesAfter : Type 0
 BytesAfter =
     (memory : List ℕ) (s : State) (code rest : List ℕ) (i : Instruction)
     → decoded code ≡ Fields i → step memory s (take (i .size) code ++ rest) ≡ step memory s code
+
+-- R4.18: and the first 11 bytes alone, or any more, have the answer of the whole code, be it refused or not.
+abbrev pub FirstBytes : Type 0
+FirstBytes = (memory : List ℕ) (s : State) (code : List ℕ) (n : ℕ) → 11 ≤ n → step memory s (take n code) ≡ step memory s code
+
+-- R4.12: no step answers 6.
+abbrev pub NoSix : Type 0
+NoSix = (memory : List ℕ) (s : State) (code : List ℕ) → step memory s code .answer .number ≢ 6
+
+-- R3.14, R4.17: the length that is handed back with 0 by a step that was given this code
+abbrev pub Sized : List ℕ → Stepped → Type 0
+Sized code o = o .answer .number ≡ 0 → (6 ≤ o .answer .length) × (o .answer .length ≤ 11) × (o .answer .length ≤ length code)
+
+-- R3.14: of every step.
+abbrev pub Lengths : Type 0
+Lengths = (memory : List ℕ) (s : State) (code : List ℕ) → Sized code (step memory s code)

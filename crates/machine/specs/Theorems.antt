@@ -1,5 +1,5 @@
 -- What is proved of the machine, all in one: proofs/Theorems.antt. The clauses are those of docs/RULES.md.
-use Rattle.machine.specs.Answers.{Answers, BytesAfter}
+use Rattle.machine.specs.Answers.{Answers, BytesAfter, FirstBytes, NoSix, Lengths}
 use Rattle.machine.specs.OffLanes.{OffLanes}
 use Rattle.machine.specs.TwoRuns.{TwoRuns}
 use Rattle.machine.specs.Bytes.{DecodedBytes}
@@ -9,8 +9,12 @@ use Rattle.machine.specs.Rows.{StarredRows}
 pub record Theorems : Type 1 where
   -- R4.2, R4.15 to R4.17: which answer is given, and what it leaves
   pub answers : Answers
-  -- R4.18: and that it turns on no byte behind the instruction
+  -- R4.18: and that it turns on no byte behind the instruction, nor behind the eleventh
   pub bytesAfter : BytesAfter
+  pub firstBytes : FirstBytes
+  -- R4.12, R3.14: and is never 6; how long what is done is
+  pub noSix : NoSix
+  pub lengths : Lengths
   -- R5.2: the conditions of 7 and 8, and the flags
   pub offLanes : OffLanes
   -- R11.7: two runs

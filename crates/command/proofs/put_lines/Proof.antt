@@ -18,10 +18,14 @@ abbrev μ-loop : tie.MeasureT-loop
 μ-loop vectors₀ masks₀ general control₀ pointer₀ code memory out₀ offset₀ at₀ vectors masks control pointer out offset at =
     length code - offset
 
--- at the place behind a step: one that is done moves the offset
-six-to-eleven : (c : tie.After-put-step Inv-loop μ-loop) → c .put-step .result .answer .number ≡ 0
-    → (6 ≤ c .put-step .result .answer .length) × (c .put-step .result .answer .length ≤ 11)
-six-to-eleven c = moved (c .before .before .before .before .before .before .before .loop .inv) (c .put-step .ensures .0)
+-- at the place behind a step: one that is done moves the offset, and not past the end
+onward : (c : tie.After-put-step Inv-loop μ-loop) → c .put-step .result .answer .number ≡ 0
+    → (6 ≤ c .put-step .result .answer .length) × (c .put-step .result .answer .length ≤ 4096)
+onward c z =
+    let start = c .before .before .before .before .before .before .before .before .before .before .before .before in
+    let loop-test = c .before .before .before .before .before .before .loop-test in
+    let m = moved (c .before .before .before .before .before .before .before .loop .inv) (c .put-step .ensures .0) (loop-test .taken) z in
+    (m .0, omega (arith, m .1, start .pre .0))
 
 loop-holds : tie.Need-loop-holds Inv-loop μ-loop
 loop-holds c = starts _ _ _ _
@@ -69,13 +73,13 @@ returns c =
     (if1 .taken) (c .before .before .put-stop-line .ensures)
 
 cast-offset : tie.Need-cast-offset Inv-loop μ-loop
-cast-offset c = omega (arith, six-to-eleven (c .before .before .before .before .before .before .before .before) (c .before .if1 .left))
+cast-offset c = omega (arith, onward (c .before .before .before .before .before .before .before .before) (c .before .if1 .left))
 
 add-offset : tie.Need-add-offset Inv-loop μ-loop
 add-offset c =
     let far = c .before .before .before .before .before .before .before .before .before .before in
     let loop = far .before .before .before .before .before .loop in
-    omega (arith, six-to-eleven (c .before .before .before .before .before .before .before .before) (c .before .if1 .left), loop .inv)
+    omega (arith, onward (c .before .before .before .before .before .before .before .before) (c .before .if1 .left), loop .inv)
 
 loop-less : tie.Need-loop-less Inv-loop μ-loop
 loop-less c =
@@ -83,7 +87,7 @@ loop-less c =
     let loop-test = far .before .before .before .before .loop-test in
     omega (
       arith,
-      six-to-eleven (c .before .before .before .before .before .before .before .before) (c .before .if1 .left),
+      onward (c .before .before .before .before .before .before .before .before) (c .before .if1 .left),
       loop-test .taken,
     )
 
