@@ -54,7 +54,7 @@ unfolding refusals rowConditions bytesMissing
 complete code row found h =
     let ofRow = none-append (headConditions code) (rowConditions (headOf code) code row) (rw found at h) .1 in
     ltb-false (length code) (size (headOf code) row)
-    (none-append (map (λ t. (t, Reserved)) (reservedForms (headOf code) row)) (_ ∷ _ ∷ []) ofRow .1 .0)
+    (none-append (map (λ t. (t, Reserved)) (reservedForms (headOf code) row)) (_ ∷ []) ofRow .1 .0)
 
 whole : (code : List ℕ) {i : Instruction} → decoded code ≡ Fields i → Whole code i
 unfolding decoded instruction

@@ -61,22 +61,19 @@ pub record Bounds (i : Instruction) : Type 0 where
 
 -- ---- each field
 
-at-most : (k : ℕ) (t : Bool) (x y : ℕ) → x ≤ k → y ≤ k → cond t x y ≤ k
-at-most k t x y = either (λ n. n ≤ k) t
-
 module _ (h : Head) where
   lanes-in : vectorLanes h ≤ 32
   unfolding vectorLanes
   lanes-in =
-      at-most 32 (registerB h) 32 _ (lit≤ tt)
-      (at-most 32 (eqb (lengthBits h) 0) 8 _ (lit≤ tt) (at-most 32 (eqb (lengthBits h) 1) 16 32 (lit≤ tt) (lit≤ tt)))
+      either (λ n. n ≤ 32) (registerB h) (lit≤ tt)
+      (either (λ n. n ≤ 32) (eqb (lengthBits h) 0) (lit≤ tt) (either (λ n. n ≤ 32) (eqb (lengthBits h) 1) (lit≤ tt) (lit≤ tt)))
 
   destination-in : destination h < 32
   destination-in = omega arith
 
   base-bits-in : baseBits h ≤ 7
   unfolding baseBits
-  base-bits-in = at-most 7 (hasSib h) (bits (h .sib) 0 3) (rm h) (omega arith) (omega arith)
+  base-bits-in = either (λ n. n ≤ 7) (hasSib h) (omega arith) (omega arith)
 
   base-in : BaseIn (baseOf h)
   unfolding baseOf
@@ -106,8 +103,8 @@ module _ (h : Head) (row : Row) where
   pub size-most : size h row ≤ 11
   unfolding size displacementAt displacementSize
   size-most =
-      add-le-add (at-most 7 (hasSib h) 7 6 (lit≤ tt) (lit≤ tt))
-      (at-most 4 (eqb (modBits h) 1) 1 _ (lit≤ tt) (at-most 4 (eqb (modBits h) 2 || noBase h) 4 0 (lit≤ tt) (lit≤ tt)))
+      add-le-add (either (λ n. n ≤ 7) (hasSib h) (lit≤ tt) (lit≤ tt))
+      (either (λ n. n ≤ 4) (eqb (modBits h) 1) (lit≤ tt) (either (λ n. n ≤ 4) (eqb (modBits h) 2 || noBase h) (lit≤ tt) (lit≤ tt)))
 
   pub size-least : 6 ≤ size h row
   unfolding size displacementAt

@@ -6,4 +6,3 @@ pub mod Answer
 pub mod Bounds
 pub mod After
 pub mod Sizes
-pub mod Short

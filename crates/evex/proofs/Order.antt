@@ -10,12 +10,12 @@ use Rattle.lists.specs.Lists.{some, firstOf}
 use Rattle.evex.specs.Bits.{byte}
 use Rattle.evex.specs.Fields.{headOf, listed, size, instruction}
 use Rattle.evex.specs.Decode.{noBytes, wrongFirstByte, fewerThanSixBytes, wrongFixedBits, notInList, reservedForms, bytesMissing}
-use Rattle.evex.specs.Decode.{longerThanFifteenBytes, headConditions, rowConditions, refusals, fields, decoded}
+use Rattle.evex.specs.Decode.{headConditions, rowConditions, refusals, fields, decoded}
 use Rattle.evex.specs.declared.head.Head.{Head}
 use Rattle.evex.specs.declared.list.Row.{Row}
 use Rattle.evex.specs.declared.list.Listed.the-variants.{Found, Nothing}
 use Rattle.evex.specs.declared.Refusal.{Refusal}
-use Rattle.evex.specs.declared.Refusal.the-variants.{Incomplete, Unlisted, Reserved, TooLong}
+use Rattle.evex.specs.declared.Refusal.the-variants.{Incomplete, Unlisted, Reserved}
 use Rattle.evex.specs.declared.Decoded.{Decoded}
 use Rattle.evex.specs.declared.Decoded.the-variants.{Fields, Refused}
 
@@ -75,11 +75,9 @@ module _ (code : List ℕ) where
 
 -- ---- the conditions of the head
 
--- the last two conditions, and the fields
+-- the last condition, and the fields
 abbrev ending : List ℕ → Head → Row → Decoded
-ending code h row =
-    firstOf ((bytesMissing h row code, Refused Incomplete) ∷ (longerThanFifteenBytes h row, Refused TooLong) ∷ [])
-    (Fields (instruction h row code))
+ending code h row = cond (bytesMissing h row code) (Refused Incomplete) (Fields (instruction h row code))
 
 module _ {code : List ℕ} {h : Head} where
   pub fixed-bits : Begun code → h ≡ headOf code → wrongFixedBits h ≡ true → Refused Reserved ≡ decoded code
@@ -105,11 +103,6 @@ module _ {code : List ℕ} {h : Head} where
       unfolding bytesMissing
       missing s = rw (← after-list (g .headed) (g .found), g .plain, ← e, lt-ltb (length code) n s)
 
-      module _ (whole : n ≤ length code) where
-        pub too-long : 15 < n → Refused TooLong ≡ decoded code
-        unfolding bytesMissing longerThanFifteenBytes
-        too-long s = rw (← after-list (g .headed) (g .found), g .plain, ← e, le-ltb (length code) n whole, lt-ltb 15 n s)
-
-        pub accepted : n ≤ 15 → Fields (instruction h row code) ≡ decoded code
-        unfolding bytesMissing longerThanFifteenBytes
-        accepted s = rw (← after-list (g .headed) (g .found), g .plain, ← e, le-ltb (length code) n whole, le-ltb 15 n s)
+      pub accepted : n ≤ length code → Fields (instruction h row code) ≡ decoded code
+      unfolding bytesMissing
+      accepted s = rw (← after-list (g .headed) (g .found), g .plain, ← e, le-ltb (length code) n s)

@@ -8,7 +8,7 @@ use Rattle.evex.specs.List.{rows}
 use Rattle.evex.specs.Fields.{takesSib, headOf, listed, registerForm, registerB, vectorLanes, hasSib, baseBits, indexOf, noBase, baseOf}
 use Rattle.evex.specs.Fields.{displacementAt, displacementSize, second, first, elements, rounding, N, displacementOf, size, instruction}
 use Rattle.evex.specs.Decode.{noBytes, wrongFirstByte, fewerThanSixBytes, wrongFixedBits, notInList, reservedLength, zeroingWithoutMask}
-use Rattle.evex.specs.Decode.{extraSource, reservedForms, bytesMissing, longerThanFifteenBytes, headConditions, rowConditions, refusals}
+use Rattle.evex.specs.Decode.{extraSource, reservedForms, bytesMissing, headConditions, rowConditions, refusals}
 use Rattle.evex.specs.Decode.{decoded}
 use Rattle.evex.specs.Sizes.{RowSizes, DecodedSizes, SizesReached}
 use Rattle.evex.proofs.Bounds.{bounds, size-least, size-most}
@@ -25,5 +25,5 @@ pub sizes-reached : SizesReached
 unfolding modeOfBits rows takesSib headOf listed registerForm registerB vectorLanes hasSib baseBits indexOf noBase baseOf
     displacementAt displacementSize second first elements rounding N displacementOf size instruction noBytes wrongFirstByte
     fewerThanSixBytes wrongFixedBits notInList reservedLength zeroingWithoutMask extraSource reservedForms bytesMissing
-    longerThanFifteenBytes headConditions rowConditions refusals decoded
+    headConditions rowConditions refusals decoded
 sizes-reached = ((_, refl, refl), (_, refl, refl))

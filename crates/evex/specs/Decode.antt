@@ -1,4 +1,4 @@
--- docs/RULES.md, R4.5 to R4.12: the refusals that an instruction's bytes decide, in their order, and its fields where none applies.
+-- docs/RULES.md, R4.5 to R4.11: the refusals that an instruction's bytes decide, in their order, and its fields where none applies.
 use Prim.Native.Nat.{ℕ}
 use mathlib.Core.Bool.{Bool, true, false, not, _&&_, _||_}
 use mathlib.Core.List.{List, [], _∷_, _++_, map}
@@ -13,16 +13,15 @@ use Rattle.evex.specs.declared.list.Row.{Row}
 use Rattle.evex.specs.declared.list.Listed.{Listed}
 use Rattle.evex.specs.declared.list.Listed.the-variants.{Found, Nothing}
 use Rattle.evex.specs.declared.Refusal.{Refusal}
-use Rattle.evex.specs.declared.Refusal.the-variants.{Incomplete, Unlisted, Reserved, TooLong}
+use Rattle.evex.specs.declared.Refusal.the-variants.{Incomplete, Unlisted, Reserved}
 use Rattle.evex.specs.declared.Decoded.{Decoded}
 use Rattle.evex.specs.declared.Decoded.the-variants.{Fields, Refused}
 
--- R4.1: the numbers.
+-- R4.1: the numbers. R4.12: 6 is none of them.
 abbrev pub numberOf : Refusal → ℕ
 numberOf Incomplete = 3
 numberOf Unlisted = 4
 numberOf Reserved = 5
-numberOf TooLong = 6
 
 -- ---- the conditions
 
@@ -71,10 +70,6 @@ reservedForms h row =
 unfoldable pub bytesMissing : Head → Row → List ℕ → Bool
 bytesMissing h row code = ltb (length code) (size h row)
 
--- R4.12: more than 15 bytes.
-unfoldable pub longerThanFifteenBytes : Head → Row → Bool
-longerThanFifteenBytes h row = ltb 15 (size h row)
-
 -- ---- R4.2: the order
 
 -- by the row, where there is one
@@ -93,11 +88,10 @@ headConditions code =
     ∷ (notInList (listed h), Unlisted)
     ∷ []
 
--- from R4.10 to R4.12
+-- R4.10, then R4.11
 unfoldable pub rowConditions : Head → List ℕ → Row → List (Bool × Refusal)
 rowConditions h code row =
-    map (λ reserved. (reserved, Reserved)) (reservedForms h row)
-    ++ ((bytesMissing h row code, Incomplete) ∷ (longerThanFifteenBytes h row, TooLong) ∷ [])
+    map (λ reserved. (reserved, Reserved)) (reservedForms h row) ++ ((bytesMissing h row code, Incomplete) ∷ [])
 
 -- all of them; where there is no row one of the head's has refused
 unfoldable pub refusals : List ℕ → List (Bool × Refusal)

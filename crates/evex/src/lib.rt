@@ -1,4 +1,4 @@
-// The bytes of an instruction: its fields (R3.1 to R3.14), or why they are refused (R4.5 to R4.12).
+// The bytes of an instruction: its fields (R3.1 to R3.14), or why they are refused (R4.5 to R4.11).
 ghost use mathlib.Core.Path.{_≡_};
 ghost use Rattle.evex.specs.Decode.{decoded, numberOf};
 use half::Mode;
@@ -79,12 +79,11 @@ pub struct Instruction {
     pub size: usize,
 }
 
-// Why bytes are refused: the code ends too early; not in the list; reserved encoding; more than 15 bytes (R4.1).
+// Why bytes are refused: the code ends too early; not in the list; reserved encoding (R4.1).
 pub enum Refusal {
     Incomplete,
     Unlisted,
     Reserved,
-    TooLong,
 }
 
 pub enum Decoded {
@@ -101,7 +100,6 @@ impl Refusal {
             Refusal::Incomplete => 3,
             Refusal::Unlisted => 4,
             Refusal::Reserved => 5,
-            Refusal::TooLong => 6,
         }
     }
 }
@@ -129,12 +127,8 @@ pub fn decode(code: &[u8]) -> Decoded
     if form::is_reserved(head, row) {
         return Decoded::Refused(Refusal::Reserved);
     }
-    let size = form::size(head, row);
-    if code.len() < size {
+    if code.len() < form::size(head, row) {
         return Decoded::Refused(Refusal::Incomplete);
-    }
-    if 15 < size {
-        return Decoded::Refused(Refusal::TooLong);
     }
     Decoded::Fields(form::instruction(head, row, code))
 }

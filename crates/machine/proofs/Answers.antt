@@ -23,7 +23,7 @@ use Rattle.machine.specs.State.{State}
 use Rattle.machine.specs.Memory.{needsOutside}
 use Rattle.machine.specs.Lanes.{gathered, raisesUnmasked, recorded, controlAfter}
 use Rattle.machine.specs.Step.{ofFields, beforeSeven, conditions, answerOf, refused, stopped, completed, step}
-use Rattle.machine.specs.Answers.{InOrder, Leaves, Answers, BytesAfter, FirstBytes, NoSix, Sized, Lengths}
+use Rattle.machine.specs.Answers.{InOrder, Leaves, Answers, BytesAfter, FirstBytes, NotSix, NoSix, Sized, Lengths}
 use Rattle.lists.proofs.First.{NonZero}
 use Rattle.machine.proofs.First.{in-order}
 use Rattle.machine.proofs.Ends.{before-non-zero, by-decoded, of-step}
@@ -123,7 +123,7 @@ first-bytes memory s code n h = by-decoded memory s code (take n code) (enough c
 pub no-six : NoSix
 unfolding stopped completed
 no-six memory s code =
-    of-step memory s code (λ o. o .answer .number ≢ 6) (λ n h e. omega arith) (λ e. omega arith)
+    of-step memory s code NotSix (λ n h e. omega arith) (λ e. omega arith)
     (λ i d. ((λ e. omega arith), (λ e. omega arith)))
 
 pub lengths : Lengths

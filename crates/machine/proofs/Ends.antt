@@ -16,11 +16,10 @@ use Rattle.lists.proofs.First.{NonZero, first-append, first-found, holds-none}
 use Rattle.evex.specs.Decode.{numberOf, refusals, decoded}
 use Rattle.evex.specs.declared.Instruction.{Instruction}
 use Rattle.evex.specs.declared.Refusal.{Refusal}
-use Rattle.evex.specs.declared.Refusal.the-variants.{Incomplete, Unlisted, Reserved, TooLong}
+use Rattle.evex.specs.declared.Refusal.the-variants.{Incomplete, Unlisted, Reserved}
 use Rattle.evex.specs.declared.Decoded.{Decoded}
 use Rattle.evex.specs.declared.Decoded.the-variants.{Fields, Refused}
 use Rattle.evex.proofs.Answer as evex
-use Rattle.evex.proofs.Short as short
 use Rattle.machine.specs.State.{State, Stepped}
 use Rattle.machine.specs.Memory.{needsOutside}
 use Rattle.machine.specs.Lanes.{gathered, raisesUnmasked}
@@ -109,7 +108,6 @@ number-of : (r : Refusal) → numberOf r ≢ 0
 number-of Incomplete e = omega arith
 number-of Unlisted e = omega arith
 number-of Reserved e = omega arith
-number-of TooLong e = omega arith
 
 numbered-non-zero : (cs : List (Bool × Refusal)) → NonZero (evex.numbered cs)
 numbered-non-zero [] = tt
@@ -128,16 +126,15 @@ pub data Way (s : State) (code : List ℕ) : Type 0 where
 pub way : (s : State) (code : List ℕ) → Way s code
 way s code = go (wrongVectorFile s) (highControlBit s) (decoded code) refl refl refl
   where
-    refusal : (r : Refusal) → decoded code ≡ Refused r → firstOf (beforeSeven s code) 0 ≡ numberOf r → Way s code
-    refusal Incomplete d e = early 2 e (lit≤ tt)
-    refusal Unlisted d e = early 3 e (lit≤ tt)
-    refusal Reserved d e = early 4 e (lit≤ tt)
-    refusal TooLong d e = absurd (short.never code d)
+    refusal : (r : Refusal) → firstOf (beforeSeven s code) 0 ≡ numberOf r → Way s code
+    refusal Incomplete e = early 2 e (lit≤ tt)
+    refusal Unlisted e = early 3 e (lit≤ tt)
+    refusal Reserved e = early 4 e (lit≤ tt)
 
     go : (v c : Bool) (d : Decoded) → wrongVectorFile s ≡ v → highControlBit s ≡ c → decoded code ≡ d → Way s code
     go true c d e f g = early 0 (rw (before s code, e)) (lit≤ tt)
     go false true d e f g = early 1 (rw (before s code, e, f)) (lit≤ tt)
-    go false false (Refused r) e f g = refusal r g (rw (before s code, e, f, g))
+    go false false (Refused r) e f g = refusal r (rw (before s code, e, f, g))
     go false false (Fields i) e f g = fields i (holds-none (beforeSeven s code) (before-non-zero s code) (rw (before s code, e, f, g)), g)
 
 -- of what is decoded neither 1 nor 2 is given

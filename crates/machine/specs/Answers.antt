@@ -31,7 +31,7 @@ pub record InOrder (cs : List (Bool × ℕ)) (n : ℕ) : Type 0 where
 pub record Leaves (s : State) (o : Stepped) : Type 0 where
   -- R4.15, of the pointer
   pub moved : o .answer .number ≡ 0 → o .state .pointer ≡ (s .pointer + o .answer .length) % 2 ^ 64
-  -- R4.16, of 1 to 7
+  -- R4.16, of every number but 0 and 8
   pub before : o .answer .number ≢ 0 → o .answer .number ≢ 8 → o .state ≡ s
   -- R4.16, of 8; flags are bits 0 to 5
   pub flagged : o .answer .number ≡ 8
@@ -48,7 +48,7 @@ pub record Leaves (s : State) (o : Stepped) : Type 0 where
   -- R4.17
   pub length : o .answer .number ≢ 0 → o .answer .length ≡ 0
 
--- R4.19: of every step; `conditions` has the order from 1 to 8.
+-- R4.19: of every step; `conditions` has the order.
 abbrev pub Answers : Type 0
 Answers =
     (memory : List ℕ) (s : State) (code : List ℕ)
@@ -64,9 +64,13 @@ BytesAfter =
 abbrev pub FirstBytes : Type 0
 FirstBytes = (memory : List ℕ) (s : State) (code : List ℕ) (n : ℕ) → 11 ≤ n → step memory s (take n code) ≡ step memory s code
 
--- R4.12: no step answers 6.
+-- R4.12: another number than 6 is handed back
+abbrev pub NotSix : Stepped → Type 0
+NotSix o = o .answer .number ≢ 6
+
+-- R4.12: by every step.
 abbrev pub NoSix : Type 0
-NoSix = (memory : List ℕ) (s : State) (code : List ℕ) → step memory s code .answer .number ≢ 6
+NoSix = (memory : List ℕ) (s : State) (code : List ℕ) → NotSix (step memory s code)
 
 -- R3.14, R4.17: the length that is handed back with 0 by a step that was given this code
 abbrev pub Sized : List ℕ → Stepped → Type 0

@@ -51,7 +51,7 @@ answerOf memory s code = firstOf (conditions memory s code) 0
 
 -- ---- what each answer leaves
 
--- R4.16, R4.17: 1 to 7 leave everything unchanged
+-- R4.16, R4.17: every number but 0 and 8 leaves everything unchanged
 abbrev pub refused : ℕ → State → Stepped
 refused n s = record { answer = record { number = n; length = 0 }; state = s }
 
@@ -87,7 +87,7 @@ completed memory s i =
 
 -- ---- a step, and a run
 
--- R4.19. Where decoding refuses, the answer is one of 1 to 6 (proofs/Ends.antt, `way`).
+-- R4.19. Where decoding refuses, the answer is one of 1 to 5 (proofs/Ends.antt, `way`).
 unfoldable pub step : List ℕ → State → List ℕ → Stepped
 step memory s code =
     let n : ℕ = answerOf memory s code in

@@ -3,7 +3,7 @@ use native.Mathlib.Omega.{arith}
 use mathlib.Core.Path.{sym, _∙_}
 use denote.Ref.{now}
 use Rattle.evex.proofs.Order.{Begun, Headed, Rowed, no-bytes, first-byte, few-bytes, fixed-bits, unlisted, reserved, missing}
-use Rattle.evex.proofs.Order.{too-long, accepted}
+use Rattle.evex.proofs.Order.{accepted}
 use borrow.Author.Needs.{needs}
 use Rattle.evex.proofs.decode.Statement.{statement}
 use Rattle.evex.proofs.decode.Tie as tie
@@ -84,17 +84,13 @@ size-requires c κs = search needs
 returns-7 : tie.Need-returns-7
 returns-7 c = missing (rowed (c .before .before)) (c .before .size .ensures) (c .if6 .taken)
 
-returns-8 : tie.Need-returns-8
-returns-8 c = too-long (rowed (c .before .before .before)) (c .before .before .size .ensures) (c .before .if6 .left) (c .if7 .taken)
-
 instruction-requires : tie.Need-instruction-requires
 instruction-requires c κs = search needs
 
-returns-9 : tie.Need-returns-9
-returns-9 c =
-    let size = c .before .before .before .size in
+returns-8 : tie.Need-returns-8
+returns-8 c =
     rw (c .instruction .ensures)
-    (accepted (rowed (c .before .before .before .before)) (size .ensures) (c .before .before .if6 .left) (c .before .if7 .left))
+    (accepted (rowed (c .before .before .before)) (c .before .before .size .ensures) (c .before .if6 .left))
 
 pub decode-spec : {M : Type 1} → statement M
 decode-spec =
@@ -115,6 +111,5 @@ decode-spec =
     returns-6
     size-requires
     returns-7
-    returns-8
     instruction-requires
-    returns-9)
+    returns-8)
