@@ -29,7 +29,7 @@ extern "C" {
 
 /*
  * Answers (R4.1). The library has one table of answer numbers. The arithmetic gives only 0 and 9, a
- * step 0 to 8, a save 0 to 2, a load 0, 1, 2 and 10.
+ * step 0 to 5, 7 and 8, a save 0 to 2, a load 0, 1, 2 and 10.
  *
  *    0  done
  *    1  the vector file has not 2,048 bytes, or the target of a save has not 2,257
@@ -37,7 +37,7 @@ extern "C" {
  *    3  the code ends too early
  *    4  the code begins with no instruction that is carried out
  *    5  reserved encoding
- *    6  the instruction is longer than 15 bytes (which no instruction carried out now is)
+ *    6  no longer given (it was for instructions of more than 15 bytes, R4.12)
  *    7  a byte that is needed lies outside memory
  *    8  unmasked numeric exception
  *    9  rounding mode above 3: the half is 0x0000 and the flags are 0
@@ -49,7 +49,7 @@ extern "C" {
 #define RIDGECROOK_CUT_SHORT 3
 #define RIDGECROOK_NOT_LISTED 4
 #define RIDGECROOK_RESERVED 5
-#define RIDGECROOK_TOO_LONG 6
+#define RIDGECROOK_TOO_LONG 6 /* by no call */
 #define RIDGECROOK_OUTSIDE_MEMORY 7
 #define RIDGECROOK_EXCEPTION 8
 #define RIDGECROOK_BAD_MODE 9
@@ -136,7 +136,8 @@ ridgecrook_rounded ridgecrook_fused_multiply_add(uint16_t a, uint16_t b, uint16_
 /* What a step hands back (R4.17): 8 bytes, without padding. */
 typedef struct {
     uint32_t number; /* RIDGECROOK_DONE to RIDGECROOK_EXCEPTION, see the table of answers */
-    uint32_t length; /* the instruction's length in bytes; 0 unless number is RIDGECROOK_DONE */
+    uint32_t length; /* the instruction's length in bytes, 6 to 11 and at most code_length (R3.14);
+                        0 unless number is RIDGECROOK_DONE */
 } ridgecrook_answer;
 
 /*
@@ -156,8 +157,9 @@ typedef struct {
  *   pointer                  RIP: the address of this instruction. Operands relative to RIP count
  *                            from it plus the instruction's length (R5.4).
  *   code, code_length        The bytes from the instruction on; only read. What stands behind the
- *                            instruction has no effect (R4.18), so the rest of a program may be
- *                            lent, and 15 bytes are always enough.
+ *                            instruction has no effect, so the rest of a program may be lent; its
+ *                            first 11 bytes are always enough (R4.18). 15 will be whatever
+ *                            instructions are added: no processor takes a longer one.
  *   memory, memory_length    What stands at the addresses 0 to memory_length - 1; only read. All
  *                            other addresses lie outside memory (R1.8).
  *
@@ -187,7 +189,6 @@ typedef struct {
  *    5  length bits 3 without embedded rounding, zeroing without a mask, or VSQRTPH with bits for a
  *       first source
  *    3  the SIB byte or a byte of the displacement is not there
- *    6  more than 15 bytes
  *    7  a byte outside memory is needed
  *    8  an unmasked exception
  *

@@ -15,9 +15,13 @@ pub struct Seen<'a> {
 /// Something a step may reach, in so many kinds; a step reaches at most one of them.
 type Feature = (&'static str, usize, fn(&Seen) -> Option<usize>);
 
-/// Which kind is out of reach: answer 6, since no listed form is longer than 11 bytes, and index 4,
-/// which is the encoding of no index.
-const OUT_OF_REACH: [(&str, usize); 2] = [("answer", 6), ("index register", 4)];
+/// Which kind is out of reach: answer 6, which no step gives (R4.12); index 4, which is the
+/// encoding of no index; 9 bytes, since no SIB byte and displacement have 3 together.
+const OUT_OF_REACH: [(&str, usize); 3] = [
+    ("answer", 6),
+    ("index register", 4),
+    ("length of 6 to 11 bytes", 3),
+];
 
 const FEATURES: &[Feature] = &[
     ("answer", 9, |s| Some(s.number())),
@@ -187,6 +191,7 @@ const FEATURES: &[Feature] = &[
     ("cut short after so many bytes", 11, |s| {
         yes(s.number() == 3).map(|_| s.before.code.len())
     }),
+    ("length of 6 to 11 bytes", 6, |s| Some(s.done()?.length - 6)),
     ("bytes after the instruction", 1, |s| {
         yes(s.before.code.len() > s.done()?.length)
     }),

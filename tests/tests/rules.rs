@@ -79,7 +79,7 @@ fn arithmetic_examples() {
 
 #[test]
 fn step_examples() {
-    assert_eq!(check::<Step>(true, "+", library::step_outcome), (39, 7));
+    assert_eq!(check::<Step>(true, "+", library::step_outcome), (40, 7));
 }
 
 /// What stands behind some text, up to the end of the block of code that it begins.

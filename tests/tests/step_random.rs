@@ -7,7 +7,7 @@
 use ridgecrook_tests::compare::setting;
 use ridgecrook_tests::coverage::Watched;
 use ridgecrook_tests::library;
-use ridgecrook_tests::machine::Step;
+use ridgecrook_tests::machine::{Step, StepOutcome};
 use ridgecrook_tests::random_step::Steps;
 
 const SEED: u64 = 20_240_301;
@@ -30,6 +30,31 @@ fn random_steps_reach_everything_and_agree() {
     if count >= ENOUGH {
         coverage.require(10);
     }
+}
+
+/// What the library says to the first 11 bytes of a step's code, as if it had been lent the whole.
+fn by_eleven_bytes(step: &Step) -> StepOutcome {
+    let mut cut = step.clone();
+    cut.code.truncate(11);
+    let mut outcome = library::step_outcome(&cut);
+    outcome.after.code = step.code.clone();
+    outcome
+}
+
+/// Nothing behind the first 11 bytes counts, whether the code is refused or not (R4.18).
+#[test]
+fn eleven_bytes_are_enough() {
+    let seed = setting("RIDGECROOK_SEED", SEED);
+    let count = setting("RIDGECROOK_STEPS", 40_000);
+    let mut watched = Watched::of(by_eleven_bytes, &format!("11 bytes of code, seed {seed}"));
+    let mut steps = Steps::seeded(seed);
+    for _ in 0..count {
+        let mut step = steps.step();
+        let longer = steps.random.within(1, 12) as usize;
+        step.code.extend(steps.random.bytes(longer));
+        watched.step(&step);
+    }
+    watched.finish(count, &[0, 1, 2, 3, 4, 5, 7, 8]);
 }
 
 const STEPS_A_SEQUENCE: u64 = 12;

@@ -1,8 +1,7 @@
 //! Refusals (R4.2 to R4.14): each alone, each before every later one, every cut, every opcode, map,
 //! prefix and W.
 //!
-//! Answer 6 has no test of its own: no instruction is longer than 11 bytes, so no input gives it.
-//! `step_random` fails if it is ever seen.
+//! No step gives answer 6 (R4.12): `step_random` fails if it is ever seen.
 
 use ridgecrook_tests::assemble::Encoding;
 use ridgecrook_tests::compare::failure;
@@ -38,7 +37,7 @@ const fn spoiled(name: &'static str, number: u32, spoil: fn(&mut Step)) -> Condi
     }
 }
 
-/// In the order of R4.2, a group for each clause from R4.3 to R4.14 but for R4.12.
+/// In the order of R4.2, a group for each clause from R4.3 to R4.14; R4.12 has no condition.
 const CONDITIONS: [&[Condition]; 11] = [
     &[
         spoiled("a vector file of 2,047 bytes", 1, |step| {

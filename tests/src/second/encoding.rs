@@ -147,10 +147,6 @@ pub fn decode(code: &[u8]) -> Result<Instruction, u32> {
     }
     // R4.11: bytes that are not there
     let (second, length) = second_source(code).ok_or(3_u32)?;
-    // R4.12. The longest instruction has 11 bytes, so no input gives this answer.
-    if length > 15 {
-        return Err(6);
-    }
     Ok(fields(listed, code, second, length))
 }
 
