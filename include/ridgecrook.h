@@ -37,7 +37,7 @@ extern "C" {
  *    3  the code ends too early
  *    4  the code begins with no instruction that is carried out
  *    5  reserved encoding
- *    6  no longer given (it was for instructions of more than 15 bytes, R4.12)
+ *    6  no longer given: it was for an instruction of more than 15 bytes, and there is none (R4.12)
  *    7  a byte that is needed lies outside memory
  *    8  unmasked numeric exception
  *    9  rounding mode above 3: the half is 0x0000 and the flags are 0
@@ -49,7 +49,7 @@ extern "C" {
 #define RIDGECROOK_CUT_SHORT 3
 #define RIDGECROOK_NOT_LISTED 4
 #define RIDGECROOK_RESERVED 5
-#define RIDGECROOK_TOO_LONG 6 /* by no call */
+#define RIDGECROOK_TOO_LONG 6 /* no longer given */
 #define RIDGECROOK_OUTSIDE_MEMORY 7
 #define RIDGECROOK_EXCEPTION 8
 #define RIDGECROOK_BAD_MODE 9
@@ -135,9 +135,9 @@ ridgecrook_rounded ridgecrook_fused_multiply_add(uint16_t a, uint16_t b, uint16_
 
 /* What a step hands back (R4.17): 8 bytes, without padding. */
 typedef struct {
-    uint32_t number; /* RIDGECROOK_DONE to RIDGECROOK_EXCEPTION, see the table of answers */
-    uint32_t length; /* the instruction's length in bytes, 6 to 11 and at most code_length (R3.14);
-                        0 unless number is RIDGECROOK_DONE */
+    uint32_t number; /* 0 to 5, 7 or 8, see the table of answers */
+    uint32_t length; /* with RIDGECROOK_DONE the instruction's length in bytes, 6 to 11 (R3.14) and
+                        at most code_length; else 0 */
 } ridgecrook_answer;
 
 /*
@@ -158,8 +158,8 @@ typedef struct {
  *                            from it plus the instruction's length (R5.4).
  *   code, code_length        The bytes from the instruction on; only read. What stands behind the
  *                            instruction has no effect, so the rest of a program may be lent; its
- *                            first 11 bytes are always enough (R4.18). 15 will be whatever
- *                            instructions are added: no processor takes a longer one.
+ *                            first 11 bytes are always enough (R4.18). Lend 15 to be ready for
+ *                            instructions of later versions: none on x86 is longer.
  *   memory, memory_length    What stands at the addresses 0 to memory_length - 1; only read. All
  *                            other addresses lie outside memory (R1.8).
  *

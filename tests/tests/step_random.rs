@@ -1,5 +1,5 @@
-//! Random steps by the library and the second program (R12.3), one by one and in sequences, and a
-//! count of what they reach.
+//! Random steps by the library and the second program (R12.3), one by one, in sequences, and with
+//! the library lent the first bytes of the code alone, and a count of what they reach.
 //!
 //! `RIDGECROOK_SEED` sets the seed, `RIDGECROOK_STEPS` the number of steps of each test. What was
 //! reached is shown by `cargo test --release --test step_random -- --nocapture`.
@@ -41,7 +41,8 @@ fn by_eleven_bytes(step: &Step) -> StepOutcome {
     outcome
 }
 
-/// Nothing behind the first 11 bytes counts, whether the code is refused or not (R4.18).
+/// Nothing behind the first 11 bytes counts, whether the code is refused or not (R4.18). A step
+/// that differs is shown with its whole code; cut it to try it again.
 #[test]
 fn eleven_bytes_are_enough() {
     let seed = setting("RIDGECROOK_SEED", SEED);

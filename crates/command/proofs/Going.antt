@@ -66,7 +66,14 @@ module _ {memory code : List ℕ} {s₀ : State} {out₀ : List ℕ} {s : State}
             text = g .text ++ stepLine offset (o .answer .number) (o .state .control);
             put = followed (omega arith) (g .put) p;
             rest = rw append-assoc (ap (λ (l : List ℕ). g .text ++ l) (sym (goes-on memory code s offset e inside z)) ∙ g .rest);
-            place = omega (arith, moved e inside z, p .place, g .place, step-short offset (o .answer .number) (o .state .control) (omega arith) z);
+            place =
+                omega (
+                  arith,
+                  moved e inside z,
+                  p .place,
+                  g .place,
+                  step-short offset (o .answer .number) (o .state .control) (omega arith) z,
+                );
             near = omega (arith, moved e inside z);
             size = kept ∙ g .size;
             file = f ∙ g .file;

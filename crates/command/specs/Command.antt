@@ -110,7 +110,7 @@ pub record Wrote (text before : List ℕ) (n : ℕ) (after : List ℕ) : Type 0 
   pub buffer : after ≡ text ++ drop (length text) before
   pub within : n ≤ length after
 
--- Every text fits: a step that is done moves the offset by 6 or more and prints 16 bytes at most, so 683 of them 10,928 (Runs.antt).
+-- Every text fits: a step that is done moves the offset by 6 or more and prints 16 bytes at most, so 682 of them 10,912 (Runs.antt).
 abbrev pub room : ℕ
 room = 12288
 

@@ -1,4 +1,5 @@
--- R4.18: whatever follows an instruction's last byte, the same is decoded; and by the first 11 bytes alone, be it an instruction or not.
+-- R4.18: whatever follows an instruction's last byte, the same is decoded; so it is of any code, whatever follows as many bytes as the
+-- longest instruction has.
 -- Assumes nothing.
 use mathlib.Core.Path.{_≡_, refl, sym, ap, subst, _∙_}
 use mathlib.Core.Bool.{Bool, true, false, cond}
@@ -16,6 +17,7 @@ use Rattle.evex.specs.Bits.{byte}
 use Rattle.evex.specs.Fields.{headOf, takesSib, listed, hasSib, displacementAt, displacementSize, size, displacementOf, instruction}
 use Rattle.evex.specs.Decode.{noBytes, wrongFirstByte, fewerThanSixBytes, reservedForms, bytesMissing, headConditions, rowConditions}
 use Rattle.evex.specs.Decode.{refusals, fields, decoded}
+use Rattle.evex.specs.Sizes.{longest}
 use Rattle.evex.specs.declared.list.Row.{Row}
 use Rattle.evex.specs.declared.list.Listed.{Listed}
 use Rattle.evex.specs.declared.list.Listed.the-variants.{Found, Nothing}
@@ -56,7 +58,7 @@ complete code row found h =
     ltb-false (length code) (size (headOf code) row)
     (none-append (map (λ t. (t, Reserved)) (reservedForms (headOf code) row)) (_ ∷ []) ofRow .1 .0)
 
-whole : (code : List ℕ) {i : Instruction} → decoded code ≡ Fields i → Whole code i
+pub whole : (code : List ℕ) {i : Instruction} → decoded code ≡ Fields i → Whole code i
 unfolding decoded instruction
 whole code {i} e = go (listed (headOf code)) refl (passed (refusals code) _ e)
   where
@@ -67,9 +69,6 @@ whole code {i} e = go (listed (headOf code)) refl (passed (refusals code) _ e)
     go : (l : Listed) → listed (headOf code) ≡ l → NoneHolds (refusals code) × (fields (headOf code) code l ≡ Fields i) → Whole code i
     go (Found row) f p = record { row = row; found = f; bytes = ap sizeOf (sym (p .1)); there = complete code row f (p .0) }
     go Nothing f p = absurd (subst IsFields (sym (p .1)) tt)
-
-pub all-there : (code : List ℕ) {i : Instruction} → decoded code ≡ Fields i → i .size ≤ length code
-all-there code e = let w = whole code e in rw (w .bytes) (w .there)
 
 -- ---- two codes with the same first bytes
 
@@ -104,7 +103,7 @@ module _ {code other : List ℕ} {n : ℕ} (same : Same code other n) where
         same-sib,
       )
 
-  -- those on the number of bytes hold of neither
+  -- the conditions on the number of bytes hold of neither
   same-head-conditions : headConditions other ≡ headConditions code
   unfolding headConditions noBytes wrongFirstByte fewerThanSixBytes
   same-head-conditions =
@@ -117,7 +116,7 @@ module _ {code other : List ℕ} {n : ℕ} (same : Same code other n) where
         le-ltb (length code) 6 (le-trans (same .six) (same .there)),
       )
 
-  -- of a row whose instruction has no more bytes
+  -- of a row whose instruction has at most n bytes
   module _ (row : Row) (fits : size (headOf code) row ≤ n) where
     same-row-conditions : rowConditions (headOf code) other row ≡ rowConditions (headOf code) code row
     unfolding rowConditions bytesMissing
@@ -185,11 +184,11 @@ after code rest e =
     } in
     ap (λ (k : ℕ). decoded (take k code ++ rest)) (w .bytes) ∙ same-listed same (w .row) (le-refl n) (w .found) ∙ e
 
-pub enough : (code : List ℕ) (n : ℕ) → 11 ≤ n → decoded (take n code) ≡ decoded code
-enough code n room = go (leb (length code) n) refl
+pub by-longest : (code : List ℕ) (n : ℕ) → longest ≤ n → decoded (take n code) ≡ decoded code
+by-longest code n room = go (leb (length code) n) refl
   where
-    front : n < length code → Same code (take n code) n
-    front l =
+    same-start : n < length code → Same code (take n code) n
+    same-start l =
         record {
           six = omega arith;
           seven = λ _. omega arith;
@@ -204,4 +203,4 @@ enough code n room = go (leb (length code) n) refl
 
     go : (t : Bool) → leb (length code) n ≡ t → decoded (take n code) ≡ decoded code
     go true e = ap decoded (take-all n code (leb-true (length code) n e))
-    go false e = cut (front (leb-false (length code) n e)) (listed (headOf code)) refl
+    go false e = cut (same-start (leb-false (length code) n e)) (listed (headOf code)) refl

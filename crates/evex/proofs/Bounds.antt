@@ -1,7 +1,7 @@
 -- The ranges of a decoded instruction's fields, for whoever uses them as indices: each is a few bits, so they hold of any bytes.
 -- Assumes nothing.
 use mathlib.Core.Path.{_≡_, subst}
-use mathlib.Core.Bool.{Bool, cond, not, _&&_, _||_}
+use mathlib.Core.Bool.{Bool, not, _&&_, _||_}
 use mathlib.Core.List.{List, [], _∷_, map}
 use Prim.Native.Nat.{ℕ, _≤_, _<_}
 use native.Mathlib.Omega.{arith}
@@ -10,12 +10,12 @@ use lib.Dec.{eqb, lit≤}
 use lib.IntN.{ℤ}
 use Rattle.lists.specs.Lists.{firstOf}
 use Rattle.lists.proofs.Tests.{either}
-use Rattle.evex.specs.Bits.{bits}
 use Rattle.evex.specs.List.{shape}
-use Rattle.evex.specs.Fields.{headOf, lengthBits, modBits, rm, listed, destination, first, registerForm}
-use Rattle.evex.specs.Fields.{registerB, vectorLanes, elements, hasSib, baseBits, indexNumber, indexOf, noBase, baseOf, displacementAt}
+use Rattle.evex.specs.Fields.{headOf, lengthBits, modBits, listed, destination, first, registerForm, registerB, vectorLanes}
+use Rattle.evex.specs.Fields.{elements, hasSib, baseBits, indexNumber, indexOf, noBase, baseOf, displacementAt}
 use Rattle.evex.specs.Fields.{displacementSize, size, displacementOf, second, instruction}
 use Rattle.evex.specs.Decode.{refusals, fields, decoded}
+use Rattle.evex.specs.Sizes.{shortest, longest}
 use Rattle.evex.specs.declared.head.Head.{Head}
 use Rattle.evex.specs.declared.list.Row.{Row}
 use Rattle.evex.specs.declared.list.Listed.{Listed}
@@ -56,8 +56,7 @@ pub record Bounds (i : Instruction) : Type 0 where
   pub destination : i .destination < 32
   pub first : SourceIn (i .first)
   pub second : OperandIn (i .second)
-  pub least : 6 ≤ i .size
-  pub size : i .size ≤ 11
+  pub size : i .size ≤ longest
 
 -- ---- each field
 
@@ -100,13 +99,13 @@ module _ (h : Head) (row : Row) where
   unfolding elements
   elements-in = lanes-in h
 
-  pub size-most : size h row ≤ 11
+  pub size-most : size h row ≤ longest
   unfolding size displacementAt displacementSize
   size-most =
       add-le-add (either (λ n. n ≤ 7) (hasSib h) (lit≤ tt) (lit≤ tt))
       (either (λ n. n ≤ 4) (eqb (modBits h) 1) (lit≤ tt) (either (λ n. n ≤ 4) (eqb (modBits h) 2 || noBase h) (lit≤ tt) (lit≤ tt)))
 
-  pub size-least : 6 ≤ size h row
+  pub size-least : shortest ≤ size h row
   unfolding size displacementAt
   size-least = le-trans (either (λ n. 6 ≤ n) (hasSib h) (lit≤ tt) (lit≤ tt)) (le-add-right _ (displacementSize h))
 
@@ -119,7 +118,6 @@ module _ (h : Head) (row : Row) where
         destination = destination-in h;
         first = first-in;
         second = second-in h (displacementOf h row code);
-        least = size-least;
         size = size-most;
       }
 

@@ -1,5 +1,5 @@
--- What a reader opens, in this order: List is the instructions' table, Fields the fields, Decode the refusals and the whole; Sizes
--- is a theorem about them.
+-- What a reader opens, in this order: List is the instructions' table, Fields the fields, Decode the refusals and the whole. Sizes
+-- has theorems about them.
 pub mod Bits
 pub mod List
 pub mod Fields

@@ -1,5 +1,5 @@
 -- docs/RULES.md, R3.14: how many bytes an instruction has. The statements; their proofs are in proofs/Sizes.antt.
-use Prim.Native.Nat.{ℕ, _≤_}
+use Prim.Native.Nat.{ℕ, _+_, _≤_}
 use mathlib.Core.Path.{_≡_}
 use mathlib.Core.List.{List, [], _∷_}
 use lib.ListN.{length}
@@ -10,21 +10,33 @@ use Rattle.evex.specs.declared.list.Row.{Row}
 use Rattle.evex.specs.declared.Instruction.{Instruction}
 use Rattle.evex.specs.declared.Decoded.the-variants.{Fields}
 
--- R3.14: 6 to 11, whatever the head and the row: those of R2.1, and any other that the list may get.
-abbrev pub RowSizes : Type 0
-RowSizes = (h : Head) (row : Row) → (6 ≤ size h row) × (size h row ≤ 11)
+-- R3.14: 6, byte 62 and the prefix, opcode, ModRM.
+abbrev pub shortest : ℕ
+shortest = 4 + 1 + 1
 
--- R3.14: the code is decoded, as n bytes
+-- R3.14: 11, with a SIB byte and a displacement of four bytes.
+abbrev pub longest : ℕ
+longest = shortest + 1 + 4
+
+-- R3.14: no instruction is shorter or longer, whatever the head and the row: those of R2.1, and any other with the same columns.
+abbrev pub RowSizes : Type 0
+RowSizes = (h : Head) (row : Row) → (shortest ≤ size h row) × (size h row ≤ longest)
+
+-- R3.14: n may be the length of what a code begins with: all n bytes are there.
+abbrev pub IsSize : List ℕ → ℕ → Type 0
+IsSize code n = (shortest ≤ n) × (n ≤ longest) × (n ≤ length code)
+
+-- R3.14: it is of whatever is decoded.
+abbrev pub DecodedSizes : Type 0
+DecodedSizes = (code : List ℕ) (i : Instruction) → decoded code ≡ Fields i → IsSize code (i .size)
+
+-- R3.14: a code that is decoded as n bytes
 abbrev pub HasSize : List ℕ → ℕ → Type 0
 HasSize code n = (i : Instruction) × (decoded code ≡ Fields i) × (i .size ≡ n)
-
--- R3.14: so has whatever is decoded; and its bytes are all there (R4.11).
-abbrev pub DecodedSizes : Type 0
-DecodedSizes = (code : List ℕ) (n : ℕ) → HasSize code n → (6 ≤ n) × (n ≤ 11) × (n ≤ length code)
 
 -- R3.14: neither bound can be closer. VADDPH of registers 1 and 2; VADDPH of register 1 and memory, with a SIB byte and four bytes of
 -- displacement.
 abbrev pub SizesReached : Type 0
 SizesReached =
-    HasSize (0x62 ∷ 0xF5 ∷ 0x74 ∷ 0x48 ∷ 0x58 ∷ 0xC2 ∷ []) 6
-    × HasSize (0x62 ∷ 0xF5 ∷ 0x74 ∷ 0x49 ∷ 0x58 ∷ 0x84 ∷ 0xC8 ∷ 0x00 ∷ 0x01 ∷ 0x00 ∷ 0x00 ∷ []) 11
+    HasSize (0x62 ∷ 0xF5 ∷ 0x74 ∷ 0x48 ∷ 0x58 ∷ 0xC2 ∷ []) shortest
+    × HasSize (0x62 ∷ 0xF5 ∷ 0x74 ∷ 0x49 ∷ 0x58 ∷ 0x84 ∷ 0xC8 ∷ 0x00 ∷ 0x01 ∷ 0x00 ∷ 0x00 ∷ []) longest

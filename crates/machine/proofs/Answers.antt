@@ -1,5 +1,6 @@
 -- Section 4 of docs/RULES.md: the statements of specs/Answers.antt. The number is `firstOf` of the one list of conditions, and each of them
--- has a number that is not 0; what is left is read off the two ways in which a step ends.
+-- has a number that is not 0. What is left, that 6 is not given and the length are read off the ways in which a step ends (`of-step`);
+-- which bytes count, off what is decoded.
 -- Assumes nothing.
 use Prim.Native.Nat.{ℕ, suc, _<_}
 use mathlib.Core.Path.{_≡_, refl, sym, _∙_}
@@ -10,18 +11,17 @@ use native.Mathlib.Omega.{arith}
 use borrow.Author.Tests.{eqb-true}
 use lib.Bits.{bitOr, or-zero-r}
 use lib.Dec.{eqb, lit≤}
-use lib.ListN.{length, take}
+use lib.ListN.{take}
 use Rattle.evex.specs.Decode.{decoded}
 use Rattle.evex.specs.declared.Instruction.{Instruction}
 use Rattle.evex.specs.declared.Rounding.{Rounding}
 use Rattle.evex.specs.declared.Rounding.the-variants.{Control, Embedded}
 use Rattle.evex.specs.declared.Decoded.{Decoded}
 use Rattle.evex.specs.declared.Decoded.the-variants.{Fields, Refused}
-use Rattle.evex.proofs.After.{after, enough}
+use Rattle.evex.proofs.After.{after, by-longest}
 use Rattle.evex.proofs.Sizes.{decoded-sizes}
 use Rattle.machine.specs.State.{State}
-use Rattle.machine.specs.Memory.{needsOutside}
-use Rattle.machine.specs.Lanes.{gathered, raisesUnmasked, recorded, controlAfter}
+use Rattle.machine.specs.Lanes.{gathered, recorded, controlAfter}
 use Rattle.machine.specs.Step.{ofFields, beforeSeven, conditions, answerOf, refused, stopped, completed, step}
 use Rattle.machine.specs.Answers.{InOrder, Leaves, Answers, BytesAfter, FirstBytes, NotSix, NoSix, Sized, Lengths}
 use Rattle.lists.proofs.First.{NonZero}
@@ -116,7 +116,7 @@ pub bytes-after : BytesAfter
 bytes-after memory s code rest i e = by-decoded memory s code (take (i .size) code ++ rest) (after code rest e ∙ sym e)
 
 pub first-bytes : FirstBytes
-first-bytes memory s code n h = by-decoded memory s code (take n code) (enough code n h)
+first-bytes memory s code n h = by-decoded memory s code (take n code) (by-longest code n h)
 
 -- ---- 6, and lengths
 
@@ -130,4 +130,4 @@ pub lengths : Lengths
 unfolding stopped completed
 lengths memory s code =
     of-step memory s code (Sized code) (λ n h e. absurd (omega arith)) (λ e. absurd (omega arith))
-    (λ i d. ((λ e. absurd (omega arith)), (λ _. decoded-sizes code (i .size) (i, d .1, refl))))
+    (λ i d. ((λ e. absurd (omega arith)), (λ _. decoded-sizes code i (d .1))))

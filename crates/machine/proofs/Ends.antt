@@ -102,7 +102,7 @@ pub by-decoded : (memory : List ℕ) (s : State) (code other : List ℕ) → dec
 unfolding step
 by-decoded memory s code other e = rw (answer memory s other, answer memory s code, before s other, before s code, e)
 
--- ---- every number is one of 1 to 5
+-- ---- no number is 0
 
 number-of : (r : Refusal) → numberOf r ≢ 0
 number-of Incomplete e = omega arith

@@ -5,9 +5,10 @@ use mathlib.Core.Logic.{_↔_, _≢_}
 use mathlib.Core.Bool.{Bool, true}
 use mathlib.Core.List.{List, _∷_, _++_}
 use lib.Bits.{bitOr}
-use lib.ListN.{length, take}
+use lib.ListN.{take}
 use Rattle.lists.specs.Lists.{NoneHolds}
 use Rattle.evex.specs.Decode.{decoded}
+use Rattle.evex.specs.Sizes.{longest, IsSize}
 use Rattle.evex.specs.declared.Instruction.{Instruction}
 use Rattle.evex.specs.declared.Decoded.the-variants.{Fields}
 use Rattle.machine.specs.State.{State, Stepped}
@@ -60,9 +61,9 @@ BytesAfter =
     (memory : List ℕ) (s : State) (code rest : List ℕ) (i : Instruction)
     → decoded code ≡ Fields i → step memory s (take (i .size) code ++ rest) ≡ step memory s code
 
--- R4.18: and the first 11 bytes alone, or any more, have the answer of the whole code, be it refused or not.
+-- R4.18: nor do those behind as many as the longest instruction has, whether the code is refused or not.
 abbrev pub FirstBytes : Type 0
-FirstBytes = (memory : List ℕ) (s : State) (code : List ℕ) (n : ℕ) → 11 ≤ n → step memory s (take n code) ≡ step memory s code
+FirstBytes = (memory : List ℕ) (s : State) (code : List ℕ) (n : ℕ) → longest ≤ n → step memory s (take n code) ≡ step memory s code
 
 -- R4.12: another number than 6 is handed back
 abbrev pub NotSix : Stepped → Type 0
@@ -72,10 +73,10 @@ NotSix o = o .answer .number ≢ 6
 abbrev pub NoSix : Type 0
 NoSix = (memory : List ℕ) (s : State) (code : List ℕ) → NotSix (step memory s code)
 
--- R3.14, R4.17: the length that is handed back with 0 by a step that was given this code
+-- R4.17: with 0 a length of R3.14 is handed back, by a step that was given this code
 abbrev pub Sized : List ℕ → Stepped → Type 0
-Sized code o = o .answer .number ≡ 0 → (6 ≤ o .answer .length) × (o .answer .length ≤ 11) × (o .answer .length ≤ length code)
+Sized code o = o .answer .number ≡ 0 → IsSize code (o .answer .length)
 
--- R3.14: of every step.
+-- R4.17: by every step.
 abbrev pub Lengths : Type 0
 Lengths = (memory : List ℕ) (s : State) (code : List ℕ) → Sized code (step memory s code)

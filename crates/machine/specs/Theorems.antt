@@ -5,14 +5,14 @@ use Rattle.machine.specs.TwoRuns.{TwoRuns}
 use Rattle.machine.specs.Bytes.{DecodedBytes}
 use Rattle.machine.specs.Rows.{StarredRows}
 
--- R4.19, R5.2, R11.7, R12.1, R12.2
+-- R4.12, R4.17 to R4.19, R5.2, R11.7, R12.1, R12.2
 pub record Theorems : Type 1 where
   -- R4.2, R4.15 to R4.17: which answer is given, and what it leaves
   pub answers : Answers
-  -- R4.18: and that it turns on no byte behind the instruction, nor behind the eleventh
+  -- R4.18: and that it turns on no byte behind the instruction, nor behind the longest
   pub bytesAfter : BytesAfter
   pub firstBytes : FirstBytes
-  -- R4.12, R3.14: and is never 6; how long what is done is
+  -- R4.12: and is never 6; R3.14, R4.17: the length that is handed back
   pub noSix : NoSix
   pub lengths : Lengths
   -- R5.2: the conditions of 7 and 8, and the flags

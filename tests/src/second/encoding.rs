@@ -1,5 +1,5 @@
 //! The bytes of one instruction taken apart (R3.1 to R3.14), with the refusals that depend on the
-//! bytes alone (R4.5 to R4.12), in their order.
+//! bytes alone (R4.5 to R4.11), in their order.
 
 use crate::case::Operation;
 

@@ -25,7 +25,7 @@ fn carry_out(before: &Step, machine: &mut Machine) -> Result<u32, u32> {
     if before.machine.control >= 1 << 16 {
         return Err(2);
     }
-    // R4.5 to R4.12, by the bytes alone
+    // R4.5 to R4.11, by the bytes alone
     let instruction = decode(&before.code)?;
     // R4.13; R5.8: every source is read here, and nothing written yet
     let operands = gather(before, &instruction).ok_or(7_u32)?;

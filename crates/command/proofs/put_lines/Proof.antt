@@ -18,7 +18,7 @@ abbrev μ-loop : tie.MeasureT-loop
 μ-loop vectors₀ masks₀ general control₀ pointer₀ code memory out₀ offset₀ at₀ vectors masks control pointer out offset at =
     length code - offset
 
--- at the place behind a step: one that is done moves the offset, and not past the end
+-- at the place behind a step: one that is done moves the offset, by no more bytes than the code may have
 onward : (c : tie.After-put-step Inv-loop μ-loop) → c .put-step .result .answer .number ≡ 0
     → (6 ≤ c .put-step .result .answer .length) × (c .put-step .result .answer .length ≤ 4096)
 onward c z =
