@@ -22,11 +22,11 @@ longest = shortest + 1 + 4
 abbrev pub RowSizes : Type 0
 RowSizes = (h : Head) (row : Row) → (shortest ≤ size h row) × (size h row ≤ longest)
 
--- R3.14: n may be the length of what a code begins with: all n bytes are there.
+-- R3.14: as many bytes as an instruction at the beginning of this code may have; they are all there.
 abbrev pub IsSize : List ℕ → ℕ → Type 0
 IsSize code n = (shortest ≤ n) × (n ≤ longest) × (n ≤ length code)
 
--- R3.14: it is of whatever is decoded.
+-- R3.14: whatever is decoded has so many.
 abbrev pub DecodedSizes : Type 0
 DecodedSizes = (code : List ℕ) (i : Instruction) → decoded code ≡ Fields i → IsSize code (i .size)
 

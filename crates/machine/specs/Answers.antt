@@ -61,7 +61,7 @@ BytesAfter =
     (memory : List ℕ) (s : State) (code rest : List ℕ) (i : Instruction)
     → decoded code ≡ Fields i → step memory s (take (i .size) code ++ rest) ≡ step memory s code
 
--- R4.18: nor do those behind as many as the longest instruction has, whether the code is refused or not.
+-- R4.18: nor do bytes behind as many as the longest instruction has, whether the code is refused or not.
 abbrev pub FirstBytes : Type 0
 FirstBytes = (memory : List ℕ) (s : State) (code : List ℕ) (n : ℕ) → longest ≤ n → step memory s (take n code) ≡ step memory s code
 
