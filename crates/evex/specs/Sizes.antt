@@ -30,13 +30,13 @@ IsSize code n = (shortest ≤ n) × (n ≤ longest) × (n ≤ length code)
 abbrev pub DecodedSizes : Type 0
 DecodedSizes = (code : List ℕ) (i : Instruction) → decoded code ≡ Fields i → IsSize code (i .size)
 
--- R3.14: a code that is decoded as n bytes
-abbrev pub HasSize : List ℕ → ℕ → Type 0
-HasSize code n = (i : Instruction) × (decoded code ≡ Fields i) × (i .size ≡ n)
+-- R3.14: the code is decoded, as n bytes
+abbrev pub DecodedAs : List ℕ → ℕ → Type 0
+DecodedAs code n = (i : Instruction) × (decoded code ≡ Fields i) × (i .size ≡ n)
 
 -- R3.14: neither bound can be closer. VADDPH of registers 1 and 2; VADDPH of register 1 and memory, with a SIB byte and four bytes of
 -- displacement.
 abbrev pub SizesReached : Type 0
 SizesReached =
-    HasSize (0x62 ∷ 0xF5 ∷ 0x74 ∷ 0x48 ∷ 0x58 ∷ 0xC2 ∷ []) shortest
-    × HasSize (0x62 ∷ 0xF5 ∷ 0x74 ∷ 0x49 ∷ 0x58 ∷ 0x84 ∷ 0xC8 ∷ 0x00 ∷ 0x01 ∷ 0x00 ∷ 0x00 ∷ []) longest
+    DecodedAs (0x62 ∷ 0xF5 ∷ 0x74 ∷ 0x48 ∷ 0x58 ∷ 0xC2 ∷ []) shortest
+    × DecodedAs (0x62 ∷ 0xF5 ∷ 0x74 ∷ 0x49 ∷ 0x58 ∷ 0x84 ∷ 0xC8 ∷ 0x00 ∷ 0x01 ∷ 0x00 ∷ 0x00 ∷ []) longest
