@@ -3,10 +3,11 @@
 //! The operations are inlined: called, they took up to a sixth longer.
 
 use crate::plain;
-use ridgecrook_tests::case::Outcome;
+use ridgecrook_tests::case::{Outcome, DE, IE, ZE};
 use ridgecrook_tests::machine::{Answer, Machine, REGISTER_SIZE, VECTORS_SIZE};
 
 const LANES: usize = 32;
+const EARLY: u8 = IE | DE | ZE;
 type Register = [u16; LANES];
 
 pub fn step(machine: &mut Machine, code: &[u8], memory: &[u8]) -> Answer {
@@ -28,8 +29,10 @@ fn carry_out(machine: &mut Machine, code: &[u8], memory: &[u8]) -> Result<u32, u
     let second = second_source(machine, &fields, on, code, memory)?;
     let (results, flags) = compute(machine, &fields, on, &second);
     if !fields.embedded {
-        machine.control |= u32::from(flags);
-        if u32::from(flags) & !(machine.control >> 7) != 0 {
+        let unmasked = !(machine.control >> 7) as u8;
+        let stops_early = flags & EARLY & unmasked != 0;
+        machine.control |= u32::from(if stops_early { flags & EARLY } else { flags });
+        if flags & unmasked != 0 {
             return Err(8);
         }
     }

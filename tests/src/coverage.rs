@@ -2,8 +2,9 @@
 
 use crate::compare::Comparison;
 use crate::machine::{Step, StepOutcome, VECTORS_SIZE};
+use crate::second;
 use crate::second::encoding::{decode, Address, Base, Instruction, Second, Source, LIST};
-use crate::second::step::{first_address, is_on, unmasked};
+use crate::second::step::{first_address, is_on, lane_cases, unmasked, EARLY};
 
 /// A step with its outcome, and the instruction where its bytes make one.
 pub struct Seen<'a> {
@@ -162,6 +163,18 @@ const FEATURES: &[Feature] = &[
     ("masked flags beside an unmasked exception", 1, |s| {
         let masked = s.added_flags() & !s.unmasked_raised()?;
         yes(masked != 0)
+    }),
+    ("stop: early, late, late beside a masked early flag", 3, |s| {
+        let stops = s.raised()? & unmasked(&s.before.machine, s.instruction?);
+        Some(match (stops & EARLY, s.raised()? & EARLY) {
+            (0, 0) => 1,
+            (0, _) => 2,
+            _ => 0,
+        })
+    }),
+    ("left out of an early stop: OE, UE without it, PE alone", 3, |s| {
+        let left_out = s.raised()? & !(s.outcome.after.machine.control as u8);
+        yes(left_out != 0).map(|_| left_out.trailing_zeros() as usize - 3)
     }),
     ("unmasked flag left from before, done", 6, |s| {
         let instruction = s.done()?;
@@ -360,6 +373,14 @@ impl Seen<'_> {
     fn added_flags(&self) -> u8 {
         let [old, new] = [self.before, &self.outcome.after].map(|step| step.machine.control as u8);
         new & !old & 63
+    }
+
+    /// On answer 8: all flags that lanes that are on raise, set or not.
+    fn raised(&self) -> Option<u8> {
+        let instruction = self.instruction.filter(|_| self.number() == 8)?;
+        let cases = lane_cases(self.before, instruction)?;
+        let flags = cases.iter().map(|case| second::answer(case).flags);
+        Some(flags.fold(0, |all, flags| all | flags))
     }
 
     /// On answer 8: which of the flags that were added are unmasked.

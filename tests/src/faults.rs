@@ -4,13 +4,14 @@
 use crate::case::{DE, IE, OE, PE, UE, ZE};
 use crate::differences::on_a_processor;
 use crate::machine::{Answer, Machine, Step, StepOutcome};
+use crate::second;
 use crate::second::encoding::{decode, Instruction};
-use crate::second::step::{is_on, unmasked};
+use crate::second::step::{is_on, lane_cases, unmasked, EARLY};
 
 /// What is wrong, and what it does to an outcome.
 pub type Fault = (&'static str, fn(&Step, &mut StepOutcome));
 
-pub const FAULTS: [Fault; 24] = [
+pub const FAULTS: [Fault; 27] = [
     ("a half off by one, where PE is raised", |step, outcome| {
         if done_with(step, outcome, PE) {
             change_lane(step, outcome, |half| half ^ 1);
@@ -54,6 +55,26 @@ pub const FAULTS: [Fault; 24] = [
     }),
     ("flags on 8 as the processor has them", |step, outcome| {
         *outcome = on_a_processor(step, outcome).0;
+    }),
+    ("the early stage forgotten", |step, outcome| {
+        if outcome.answer.number == 8 {
+            add_flags(step, outcome, |_, flags| flags);
+        }
+    }),
+    ("the early stage by the lane alone", |step, outcome| {
+        if outcome.answer.number == 8 {
+            add_flags(step, outcome, |unmasked, flags| match flags & EARLY & unmasked {
+                0 => flags,
+                _ => flags & EARLY,
+            });
+        }
+    }),
+    ("an early stage by a masked exception", |step, outcome| {
+        let new = outcome.after.machine.control & !step.machine.control;
+        if outcome.answer.number == 8 && new & u32::from(EARLY) != 0 {
+            let late = new & !u32::from(EARLY);
+            outcome.after.machine.control &= !late;
+        }
     }),
     ("no flags on 8", |step, outcome| {
         if outcome.answer.number == 8 {
@@ -130,6 +151,16 @@ fn instruction(step: &Step) -> Option<Instruction> {
 fn done_with(step: &Step, outcome: &StepOutcome, flag: u8) -> bool {
     let new = outcome.after.machine.control & !step.machine.control;
     outcome.answer.number == 0 && new & u32::from(flag) != 0
+}
+
+/// Sets flags of each lane that is on, as they are picked from the lane's own and those unmasked.
+fn add_flags(step: &Step, outcome: &mut StepOutcome, pick: impl Fn(u8, u8) -> u8) {
+    let instruction = instruction(step).expect("it was answered with 8");
+    let unmasked = unmasked(&step.machine, &instruction);
+    for case in lane_cases(step, &instruction).expect("its memory is there") {
+        let flags = pick(unmasked, second::answer(&case).flags);
+        outcome.after.machine.control |= u32::from(flags);
+    }
 }
 
 fn drop_flag(step: &Step, outcome: &mut StepOutcome, flag: u8) {

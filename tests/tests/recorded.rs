@@ -23,7 +23,7 @@ fn cases(text: &str) -> Vec<&str> {
 fn agrees(name: &str, answer: fn(&Step) -> StepOutcome) {
     let text = std::fs::read_to_string(path()).expect("tests/data/processor.txt");
     let cases = cases(&text);
-    let mut known = [0; 2];
+    let mut known = [0; Difference::ALL.len()];
     let mut failures = Vec::new();
     for line in &cases {
         match compare(line, answer) {

@@ -75,6 +75,40 @@ fn every_mixture_under_every_mask() {
     watched.finish(128 * 64 * 4, &[0, 8]);
 }
 
+/// R7.4, from what the lanes are said to raise and without the second program: an unmasked IE, DE
+/// or ZE of any lane leaves OE, UE and PE of all lanes out, a masked one leaves nothing out.
+#[test]
+fn the_stage_that_stops_decides_over_the_flags() {
+    let (mut left_out, mut masked_early) = (0, 0);
+    for place in 0..128 * 64_u32 {
+        let (on, masks) = (place % 128, place / 128);
+        let unmasked = !(masks as u8) & 63;
+        let raised = raised_by(on, unmasked);
+        let early = raised & (IE | DE | ZE);
+        let stops_early = early & unmasked != 0;
+        let added = if stops_early { early } else { raised };
+        let number = if raised & unmasked != 0 { 8 } else { 0 };
+        let step = division(u64::from(on), masks << 7, false);
+        for outcome in [second::step(&step), library::step_outcome(&step)] {
+            let shown = (outcome.answer.number, outcome.after.machine.control);
+            assert_eq!(shown, (number, masks << 7 | u32::from(added)), "{step}");
+        }
+        left_out += u32::from(added != raised);
+        masked_early += u32::from(number == 8 && early != 0 && !stops_early);
+    }
+    // By hand: of the 64 sets of lanes 0 to 2 and their masks 37 stop early and 19 raise only what
+    // is masked; of the 128 sets of the other lanes and masks 116 raise something, and 92 stop.
+    assert_eq!((left_out, masked_early), (37 * 116, 19 * 92));
+}
+
+/// The flags of the lanes that are on, by the table; the last has UE where it is unmasked.
+fn raised_by(on: u32, unmasked: u8) -> u8 {
+    let lanes = LANES.iter().enumerate();
+    let raised = lanes.filter(|(lane, _)| on >> lane & 1 == 1);
+    let raised = raised.fold(0, |all, (_, (_, _, flags))| all | flags);
+    raised | if on >> 6 & 1 == 1 { unmasked & UE } else { 0 }
+}
+
 /// R7.5: embedded rounding in the four modes masks everything, whatever the control word says.
 #[test]
 fn embedded_rounding_hides_every_exception() {

@@ -167,12 +167,6 @@ const TRAPS: &[Row] = &[
         "code=62F5740858C2 control=0000003F z1=3C00x8",
         "0 6 pointer=6 z0=3C00x8",
     ),
-    // R7.4: with 8 the flags of every lane that is on are set, none of lanes that are off: 1/0,
-    // 1/3, and 0/0 off, with only ZE unmasked.
-    (
-        "code=62F574495EC2 control=00001D80 k1=3 z0=1111x32 z1=3C00x2 z2=0000,4200",
-        "8 0 control=00001DA4",
-    ),
     // R6.20: OE always comes with PE. E200*7800 overflows with OE unmasked.
     (
         "code=62F5744959C2 control=00001B80 k1=1 z1=E200 z2=7800",
@@ -228,6 +222,73 @@ const TRAPS: &[Row] = &[
     (
         "code=62F574095800 k1=2 r0=FFFFFFFFFFFFFFFE z1=0000,3C00 memory=003C",
         "0 6 pointer=6 z0=0000,4000",
+    ),
+];
+
+/// R7.4: which flags 8 leaves. Lanes: 1/0 has ZE, 1/3 PE, 0/0 IE, 0001/3C00 DE, 7BFF/3800 OE and PE,
+/// 0401/4000 UE and PE; all others are 0/0 and off, but in the last row.
+const STAGES: &[Row] = &[
+    // ZE unmasked, PE of the other lane masked.
+    (
+        "code=62F574495EC2 control=00001D80 k1=3 z0=1111x32 z1=3C00x2 z2=0000,4200",
+        "8 0 control=00001D84",
+    ),
+    // ZE masked and PE unmasked: a masked exception stops nothing early.
+    (
+        "code=62F574495EC2 control=00000F80 k1=3 z0=1111x32 z1=3C00x2 z2=0000,4200",
+        "8 0 control=00000FA4",
+    ),
+    // Both unmasked.
+    (
+        "code=62F574495EC2 control=00000D80 k1=3 z0=1111x32 z1=3C00x2 z2=0000,4200",
+        "8 0 control=00000D84",
+    ),
+    // The lane that stops is the last, and PE unmasked too.
+    (
+        "code=62F574495EC2 control=00000D80 k1=80000001 z0=1111x32 z1=3C00,0000x30,3C00 z2=4200",
+        "8 0 control=00000D84",
+    ),
+    // PE from before stays.
+    (
+        "code=62F574495EC2 control=00001DA0 k1=3 z1=3C00x2 z2=0000,4200",
+        "8 0 control=00001DA4",
+    ),
+    // ZE unmasked: IE and DE of other lanes are set, though masked; OE, UE and PE are not.
+    (
+        "code=62F574495EC2 control=00001D80 k1=1F z1=3C00,0000,0001,7BFF,0401 \
+         z2=0000,0000,3C00,3800,4000",
+        "8 0 control=00001D87",
+    ),
+    // OE unmasked alone: those of both stages, of all lanes.
+    (
+        "code=62F574495EC2 control=00001B80 k1=1F z1=3C00,0000,0001,7BFF,0401 \
+         z2=0000,0000,3C00,3800,4000",
+        "8 0 control=00001BBF",
+    ),
+    // DE and PE in one lane, 0001/4200: DE unmasked stops it before PE, and UE, show.
+    (
+        "code=62F574495EC2 control=00001E80 k1=1 z1=0001 z2=4200",
+        "8 0 control=00001E82",
+    ),
+    // UE unmasked, DE masked, in one lane.
+    (
+        "code=62F574495EC2 control=00001780 k1=1 z1=0001 z2=4200",
+        "8 0 control=000017B2",
+    ),
+    // A lane that is off stops nothing early: 0/0, with IE unmasked, is off; 1/3 has PE unmasked.
+    (
+        "code=62F574495EC2 control=00000F00 k1=1 z1=3C00 z2=4200",
+        "8 0 control=00000F20",
+    ),
+    // IE, the lowest, and nothing else: 0/0 and 1/3.
+    (
+        "code=62F574495EC2 control=00001F00 k1=3 z1=0000,3C00 z2=0000,4200",
+        "8 0 control=00001F01",
+    ),
+    // R7.5: embedded rounding unmasks nothing and sets nothing; 30 lanes are 0/0.
+    (
+        "code=62F574185EC2 control=00000000 z1=3C00x2 z2=0000,4200",
+        "0 6 pointer=6 z0=7C00,3555,FE00x30",
     ),
 ];
 
@@ -356,6 +417,11 @@ fn fused_operands() {
 #[test]
 fn traps() {
     check(TRAPS);
+}
+
+#[test]
+fn two_stages() {
+    check(STAGES);
 }
 
 #[test]

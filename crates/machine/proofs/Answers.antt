@@ -27,7 +27,7 @@ use Rattle.machine.specs.Answers.{InOrder, Leaves, Answers, BytesAfter, 
 use Rattle.lists.proofs.First.{NonZero}
 use Rattle.machine.proofs.First.{in-order}
 use Rattle.machine.proofs.Ends.{before-non-zero, by-decoded, of-step}
-use Rattle.machine.proofs.Flags.{raised-below}
+use Rattle.machine.proofs.Flags.{added-below}
 
 -- ---- the order
 
@@ -76,7 +76,7 @@ module _ (memory : List ℕ) (s : State) where
   unfolding stopped controlAfter
   stopped-leaves i =
       let f : (f : ℕ) × (f < 64) × (controlAfter s i (gathered memory s i) ≡ bitOr (s .control) f) =
-      recorded-flags (i .rounding) (s .control) _ (raised-below s i (gathered memory s i)) in
+      recorded-flags (i .rounding) (s .control) _ (added-below s i (gathered memory s i)) in
       record {
         moved = λ e. absurd (omega arith);
         before = λ _ h. absurd (h refl);

@@ -1,9 +1,10 @@
--- The flags that an operation raises are the bits 0 to 5, so that they are below 64.
+-- The flags that an operation raises are the bits 0 to 5, so that they are below 64; so are those that are added of them.
 -- Assumes nothing.
 use Prim.Native.Nat.{ℕ, _<_}
 use mathlib.Core.Bool.{Bool, true, false, cond, _&&_, _||_}
 use mathlib.Core.List.{List}
-use lib.Bits.{or-lt}
+use native.Mathlib.Omega.{arith}
+use lib.Bits.{bitOr, or-lt, and-le-l}
 use lib.Dec.{lit≤}
 use Rattle.half.specs.Format.{isNan, isSignalling, isSubnormal}
 use Rattle.half.specs.Exact.{Magnitude}
@@ -19,7 +20,7 @@ use Rattle.evex.specs.declared.Operation.{Operation}
 use Rattle.evex.specs.declared.Operation.the-variants.{Add, Multiply, Subtract, Divide, SquareRoot, Fused132, Fused213, Fused231}
 use Rattle.machine.specs.State.{State}
 use Rattle.machine.specs.Memory.{on}
-use Rattle.machine.specs.Lanes.{Sources, operated, raised}
+use Rattle.machine.specs.Lanes.{Sources, raises, earlyFlags, added, operated, raised}
 use Rattle.machine.specs.declared.Environment.{Environment}
 use Rattle.evex.specs.declared.Instruction.{Instruction}
 
@@ -106,6 +107,12 @@ operated-six Fused132 e d f x = fused-six (e .mode) (e .underflow) d x f .six
 operated-six Fused213 e d f x = fused-six (e .mode) (e .underflow) f d x .six
 operated-six Fused231 e d f x = fused-six (e .mode) (e .underflow) f x d .six
 
-pub raised-below : (s : State) (i : Instruction) (g : Sources) → raised s i g < 64
+raised-below : (s : State) (i : Instruction) (g : Sources) → raised s i g < 64
 unfolding raised
 raised-below s i g = or-table-below 6 32 _ (λ j. either (λ n. n < 64) (on s i j) (operated-six (i .operation) _ _ _ _) (lit≤ tt))
+
+pub added-below : (s : State) (i : Instruction) (g : Sources) → added (i .rounding) (s .control) (raised s i g) < 64
+added-below s i g =
+    either (λ n. n < 64) (raises (i .rounding) (s .control) (earlyFlags (raised s i g)))
+    (omega (arith, raised-below s i g, and-le-l (raised s i g) (bitOr IE (bitOr DE ZE))))
+    (raised-below s i g)

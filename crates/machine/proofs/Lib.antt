@@ -5,5 +5,6 @@ pub mod Answers
 pub mod Agree
 pub mod TwoRuns
 pub mod OffLanes
+pub mod ControlWord
 pub mod Rows
 pub mod Theorems

@@ -1,4 +1,4 @@
--- The bytes to try and the starred rows, by computation.
+-- The bytes to try, the starred rows and the two stages, by computation.
 -- Assumes nothing.
 use mathlib.Core.Path.{refl}
 use lib.Ieee.{size}
@@ -32,9 +32,9 @@ use Rattle.machine.specs.Step.{
   step,
 }
 use Rattle.machine.specs.Bytes.{DecodedBytes}
-use Rattle.machine.specs.Rows.{StarredRows}
+use Rattle.machine.specs.Rows.{StarredRows, TwoStages}
 
-computed : DecodedBytes × StarredRows
+computed : DecodedBytes × StarredRows × TwoStages
 unfolding size units against whole rootFrom roundTo significant encode roundedHalf modeOfBits exactSum halfAdd halfMultiply
     halfDivide halfRoot halfMultiplyAdd starred rows takesSib headOf listed registerForm registerB vectorLanes hasSib
     baseBits indexOf noBase baseOf displacementAt displacementSize second first elements rounding fields.size N
@@ -43,10 +43,13 @@ unfolding size units against whole rootFrom roundTo significant encode roundedHa
     decoded table addressFrom located outside on needsOutside registerHalves memoryHalves gathered operated results raised
     raisesUnmasked controlAfter fill newRegister vectorsWith vectorsAfter wrongVectorFile highControlBit outsideMemory
     unmaskedException beforeSeven conditions answerOf stopped completed step
-computed = ((refl, refl, refl, refl, refl), refl)
+computed = ((refl, refl, refl, refl, refl), refl, refl)
 
 pub decoded-bytes : DecodedBytes
 decoded-bytes = computed .0
 
 pub starred-rows : StarredRows
 starred-rows = computed .1
+
+pub two-stages : TwoStages
+two-stages = computed .2

@@ -3,8 +3,9 @@
 use Rattle.machine.specs.Theorems.{Theorems}
 use Rattle.machine.proofs.Answers.{answers, bytes-after, first-bytes, no-six, lengths}
 use Rattle.machine.proofs.OffLanes.{off-lanes}
+use Rattle.machine.proofs.ControlWord.{control-word}
 use Rattle.machine.proofs.TwoRuns.{two-runs}
-use Rattle.machine.proofs.Rows.{decoded-bytes, starred-rows}
+use Rattle.machine.proofs.Rows.{decoded-bytes, starred-rows, two-stages}
 
 pub theorems : Theorems
 theorems =
@@ -15,7 +16,9 @@ theorems =
       noSix = no-six;
       lengths = lengths;
       offLanes = off-lanes;
+      controlWord = control-word;
       twoRuns = two-runs;
       decodedBytes = decoded-bytes;
       starredRows = starred-rows;
+      twoStages = two-stages;
     }

@@ -6,6 +6,7 @@ use lib.Bits.{bitAnd, bitOr}
 use lib.Dec.{eqb, ltb}
 use lib.ListN.{getD}
 use lib.Seq.{paste}
+use Rattle.half.specs.Round.{IE, DE, ZE}
 use Rattle.half.specs.Operations.{halfAdd, halfSubtract, halfMultiply, halfDivide, halfRoot, halfMultiplyAdd}
 use Rattle.half.specs.declared.Mode.{Mode}
 use Rattle.half.specs.declared.Outcome.{Outcome}
@@ -50,6 +51,14 @@ recorded (Embedded mode) control flags = control
 -- R7.3: one of these flags is of an unmasked exception
 abbrev pub raises : Rounding → ℕ → ℕ → Bool
 raises rounding control flags = not (eqb (bitAnd flags (unmasked rounding control)) 0)
+
+-- R7.4: the early ones of these flags, whose exceptions show before anything is rounded
+abbrev pub earlyFlags : ℕ → ℕ
+earlyFlags flags = bitAnd flags (bitOr IE (bitOr DE ZE))
+
+-- R7.4: what is set of the flags that all lanes raise: the early ones alone where one of them is of an unmasked exception, and else all
+abbrev pub added : Rounding → ℕ → ℕ → ℕ
+added rounding control flags = cond (raises rounding control (earlyFlags flags)) (earlyFlags flags) flags
 
 -- ---- the sources
 
@@ -140,7 +149,7 @@ module _ (s : State) (i : Instruction) (g : Sources) where
 
   -- R7.2, R7.4: the control word after the instruction, be the answer 0 or 8
   unfoldable pub controlAfter : ℕ
-  controlAfter = recorded (i .rounding) (s .control) raised
+  controlAfter = recorded (i .rounding) (s .control) (added (i .rounding) (s .control) raised)
 
 -- ---- R5.9: the destination
 

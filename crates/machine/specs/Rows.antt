@@ -1,11 +1,11 @@
--- docs/RULES.md, R12.1: the examples marked *, one statement over the single table `starred` of the arithmetic, shown for the arithmetic
--- and for a step. Its proof is in proofs/Rows.antt.
+-- docs/RULES.md, R12.1 and R12.4: the examples marked *. One statement over the single table `starred` of the arithmetic, shown for the
+-- arithmetic and for a step, and one over the control words of a step of two lanes. Their proofs are in proofs/Rows.antt.
 use Prim.Native.Nat.{ℕ, _+_, _*_, _/_, _%_, _^_}
 use mathlib.Core.Path.{_≡_}
 use mathlib.Core.Bool.{cond}
 use mathlib.Core.List.{List, [], _∷_, _++_, map}
 use lib.Bits.{bitOr}
-use lib.ListN.{replicate}
+use lib.ListN.{replicate, take}
 use Rattle.half.specs.Rows.{Operation, plus, times, over, root, fused, Row, starred, outcomeOf}
 use Rattle.half.specs.declared.Mode.{Mode}
 use Rattle.half.specs.declared.Mode.the-variants.{Nearest, Down, Up, TowardZero}
@@ -25,9 +25,14 @@ bytesOf fused = 0x62 ∷ 0xF6 ∷ 0x75 ∷ 0x49 ∷ 0xB8 ∷ 0xC2 ∷ []
 
 -- ---- R12.1, the state
 
--- 64 bytes with h in lane 0. All other lanes hold 7D7D, a signalling NaN: were one of them on, it would raise IE.
-abbrev register : ℕ → List ℕ
-register h = h % 256 ∷ h / 256 ∷ replicate 62 0x7D
+-- halves as bytes, the low one first
+abbrev bytesOfHalves : List ℕ → List ℕ
+bytesOfHalves [] = []
+bytesOfHalves (h ∷ hs) = h % 256 ∷ h / 256 ∷ bytesOfHalves hs
+
+-- 64 bytes with these halves in the lanes from 0 on. All other lanes hold 7D7D, a signalling NaN: were one of them on, it would raise IE.
+abbrev register : List ℕ → List ℕ
+register hs = take 64 (bytesOfHalves hs ++ replicate 64 0x7D)
 
 abbrev numberOfMode : Mode → ℕ
 numberOfMode Nearest = 0
@@ -39,16 +44,20 @@ numberOfMode TowardZero = 3
 abbrev controlOf : Row → ℕ
 controlOf r = numberOfMode (r .mode) * 2 ^ 13 + cond (r .unmaskedUE) 0x1780 0x1F80
 
--- the row's state, with d in lane 0 of the destination; bit 0 of mask register 1 alone is one
-abbrev rowState : Row → ℕ → ℕ → ℕ → State
-rowState r d control pointer =
+-- registers 0, 1 and 2 with these halves; mask register 1
+abbrev stateWith : List ℕ → List ℕ → List ℕ → ℕ → ℕ → ℕ → State
+stateWith z0 z1 z2 mask control pointer =
     record {
-      vectors = register d ++ (register (r .a) ++ (register (r .b) ++ replicate (29 * 64) 0x7D));
-      masks = 0 ∷ 1 ∷ replicate 6 0;
+      vectors = register z0 ++ (register z1 ++ (register z2 ++ replicate (29 * 64) 0x7D));
+      masks = 0 ∷ mask ∷ replicate 6 0;
       general = replicate 16 0;
       control = control;
       pointer = pointer;
     }
+
+-- the row's state, with d in lane 0 of the destination, which alone is on
+abbrev rowState : Row → ℕ → ℕ → ℕ → State
+rowState r d control pointer = stateWith (d ∷ []) (r .a ∷ []) (r .b ∷ []) 1 control pointer
 
 abbrev pub start : Row → State
 start r = rowState r (r .c) (controlOf r) 0
@@ -74,3 +83,18 @@ expected r = (r .gives, after r)
 -- Every starred row.
 abbrev pub StarredRows : Type 0
 StarredRows = map given starred ≡ map expected starred
+
+-- ---- R12.4: VDIVPH with lanes 0 and 1 on, of which the first divides 1 by 0 and raises ZE, the second 1 by 3 and raises PE
+
+abbrev pub stagesStart : ℕ → State
+stagesStart control = stateWith [] (0x3C00 ∷ 0x3C00 ∷ []) (0x0000 ∷ 0x4200 ∷ []) 3 control 0
+
+-- the control word before and after: ZE alone unmasked, PE alone, both
+abbrev pub stages : List (ℕ × ℕ)
+stages = (0x1D80, 0x1D84) ∷ (0x0F80, 0x0FA4) ∷ (0x0D80, 0x0D84) ∷ []
+
+-- Each stops with 8, and leaves all else.
+abbrev pub TwoStages : Type 0
+TwoStages =
+    map (λ c. step [] (stagesStart (c .0)) (bytesOf over)) stages
+    ≡ map (λ c. record { answer = record { number = 8; length = 0 }; state = stagesStart (c .1) }) stages

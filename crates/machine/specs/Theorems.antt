@@ -1,11 +1,12 @@
 -- What is proved of the machine, all in one: proofs/Theorems.antt. The clauses are those of docs/RULES.md.
 use Rattle.machine.specs.Answers.{Answers, BytesAfter, FirstBytes, NoSix, Lengths}
 use Rattle.machine.specs.OffLanes.{OffLanes}
+use Rattle.machine.specs.ControlWord.{ControlWord}
 use Rattle.machine.specs.TwoRuns.{TwoRuns}
 use Rattle.machine.specs.Bytes.{DecodedBytes}
-use Rattle.machine.specs.Rows.{StarredRows}
+use Rattle.machine.specs.Rows.{StarredRows, TwoStages}
 
--- R4.12, R4.17 to R4.19, R5.2, R11.7, R12.1, R12.2
+-- R4.12, R4.17 to R4.19, R5.2, R7.4, R11.7, R12.1, R12.2, R12.4
 pub record Theorems : Type 1 where
   -- R4.2, R4.15 to R4.17: which answer is given, and what it leaves
   pub answers : Answers
@@ -17,9 +18,13 @@ pub record Theorems : Type 1 where
   pub lengths : Lengths
   -- R5.2: the conditions of 7 and 8, and the flags
   pub offLanes : OffLanes
+  -- R7.2, R7.4, R7.5: the control word
+  pub controlWord : ControlWord
   -- R11.7: two runs
   pub twoRuns : TwoRuns
   -- R12.2: bytes of the examples
   pub decodedBytes : DecodedBytes
   -- R12.1: examples through a step
   pub starredRows : StarredRows
+  -- R12.4: and in two lanes at once
+  pub twoStages : TwoStages

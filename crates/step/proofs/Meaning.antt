@@ -24,7 +24,7 @@ use Rattle.machine.specs.declared.Environment.{Environment}
 use Rattle.machine.specs.declared.Element.{Element}
 use Rattle.machine.specs.State.{State, Stepped, registerAt, steppedOf}
 use Rattle.machine.specs.Memory.{isOn, on, nextPointer, located, outside, secondAt, needsOutside}
-use Rattle.machine.specs.Lanes.{Sources, raises, environmentOf, recorded, lanesOn, registerHalves, destinationHalves, firstHalves}
+use Rattle.machine.specs.Lanes.{Sources, raises, environmentOf, recorded, added, lanesOn, registerHalves, destinationHalves, firstHalves}
 use Rattle.machine.specs.Lanes.{secondHalves, gathered, elementAt, results, raised, raisesUnmasked, controlAfter, computed, copied, zeroed}
 use Rattle.machine.specs.Lanes.{fill, filled, newRegister, vectorsWith, vectorsAfter}
 use Rattle.machine.specs.Step.{refused, stopped, completed, step}
@@ -141,7 +141,7 @@ module _ (memory : List ℕ) (s : State) (i : Instruction) (p : ℕ → Bool) (e
     unfolding executed finished raisesUnmasked stopped completed controlAfter
     finishes left =
         let g = gathered memory s i in
-        let control = recorded (i .rounding) (s .control) (raised s i g) in
+        let control = recorded (i .rounding) (s .control) (added (i .rounding) (s .control) (raised s i g)) in
         rw (left, ← outside-is, inside, computed-is, lanes-are, stored-is s i g, n)
         (either s (raises (i .rounding) (s .control) (raised s i g))
         (leftOf (record { number = 8; length = 0 }) (s .vectors) control (s .pointer))

@@ -13,12 +13,12 @@ use lib.Seq.{drop-drop}
 use Rattle.lists.proofs.Tests.{either-equal}
 use Rattle.lists.proofs.Tables.{table-equal, part-at, paste-whole}
 use Rattle.evex.specs.Bits.{isSet}
+use Rattle.evex.proofs.Bitwise.{no-bit, bit-above, flipped-bit}
 use Rattle.machine.specs.State.{registerAt}
 use Rattle.machine.specs.Lanes.{computed, copied, filled, newRegister, vectorsWith}
 use Rattle.machine.proofs.TwoRuns.{new-length}
 use Rattle.step.specs.Work.{keptOr}
 use Rattle.step.proofs.Filling.{Filled, more, same}
-use Rattle.step.proofs.Sets.{no-bit, bit-above, flipped-bit}
 
 -- byte q of register n
 abbrev pub byteOf : (ℕ → Bool) → List ℕ → ℕ → List ℕ → ℕ → ℕ

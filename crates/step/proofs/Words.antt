@@ -12,8 +12,8 @@ use Rattle.lists.specs.Lists.{some}
 use Rattle.machine.specs.Memory.{wordFrom, wordBytes, outside}
 use Rattle.machine.specs.declared.Located.the-variants.{Words}
 use Rattle.evex.specs.Bits.{isSet}
+use Rattle.evex.proofs.Bitwise.{bit-above}
 use Rattle.step.proofs.Filling.{nowhere, found-none, found-all}
-use Rattle.step.proofs.Sets.{bit-above}
 
 neither : (a b : Bool) → (a || b) ≡ false → (a ≡ false) × (b ≡ false)
 neither true b e = absurd (true≢false e)

@@ -17,7 +17,7 @@ use Rattle.machine.specs.declared.Located.the-variants as place
 use Rattle.machine.specs.declared.Environment.{Environment}
 use Rattle.machine.specs.State.{State, Stepped}
 use Rattle.machine.specs.Memory.{needsOutside}
-use Rattle.machine.specs.Lanes.{Sources, lanesOn, registerHalves, memoryHalves, gathered, elementAt, raises, recorded, raisesUnmasked}
+use Rattle.machine.specs.Lanes.{Sources, lanesOn, registerHalves, memoryHalves, gathered, elementAt, raises, recorded, added, raisesUnmasked}
 use Rattle.machine.specs.Lanes.{Fill, computed, copied, vectorsWith}
 use Rattle.machine.specs.Step.{refused, stopped, completed}
 use Rattle.step.specs.declared.lanes.Results.{Results}
@@ -73,12 +73,13 @@ leftOf answer vectors control pointer = record { answer = answer; vectors = vect
 -- once the lanes are computed: 8, or the destination stored
 unfoldable pub finished : (ℕ → Bool) → Instruction → Results → ℕ → List ℕ → ℕ → ℕ → Left
 finished on i r next vectors control pointer =
+    let flagged : ℕ = recorded (i .rounding) control (added (i .rounding) control (r .flags)) in
     cond (raises (i .rounding) control (r .flags))
-    (leftOf (record { number = 8; length = 0 }) vectors (recorded (i .rounding) control (r .flags)) pointer)
+    (leftOf (record { number = 8; length = 0 }) vectors flagged pointer)
     (leftOf
     (record { number = 0; length = i .size })
     (vectorsWith (keptOr (keptBy on i) (i .destination)) vectors (r .halves) (i .destination))
-    (recorded (i .rounding) control (r .flags))
+    flagged
     next)
 
 -- an instruction's step, once it is decoded

@@ -2,7 +2,7 @@
 ghost use mathlib.Core.Path.{_≡_};
 ghost use lib.Bits.{bitOr};
 ghost use Rattle.machine.specs.State.{controlMode, unmaskedFlags};
-ghost use Rattle.machine.specs.Lanes.{roundingMode, unmasked, environmentOf, recorded, raises};
+ghost use Rattle.machine.specs.Lanes.{roundingMode, unmasked, environmentOf, recorded, raises, added};
 use evex::Instruction;
 use evex::Rounding;
 use half::Mode;
@@ -78,5 +78,16 @@ impl Control {
         ensures { λ r. ⌜ r ≡ raises rounding (self .bits) flags ⌝ }
     {
         flags & self.unmasked(rounding) != 0
+    }
+    // R7.4: where one of IE, DE and ZE, the three lowest, is of an exception that is not masked, these alone; else all.
+    pub(crate) fn added(self, rounding: Rounding, flags: u8) -> u8
+        ensures { λ r. ⌜ r ≡ added rounding (self .bits) flags ⌝ }
+    {
+        let early = flags & 7;
+        if self.raises(rounding, early) {
+            early
+        } else {
+            flags
+        }
     }
 }

@@ -62,7 +62,7 @@ fn finish(
 {
     let word = Control { bits: *control };
     let rounding = i.rounding;
-    let flagged = word.recorded(rounding, results.flags);
+    let flagged = word.recorded(rounding, word.added(rounding, results.flags));
     if word.raises(rounding, results.flags) {
         *control = flagged.bits;
         return ended(8);

@@ -50,7 +50,7 @@ fn main() {
 #[derive(Default)]
 struct Counts {
     answers: [u64; 9],
-    known: [u64; 2],
+    known: [u64; Difference::ALL.len()],
     passed: u64,
     failed: u64,
 }

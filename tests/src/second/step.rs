@@ -2,7 +2,7 @@
 //! and memory (5), flags (7).
 
 use super::encoding::{decode, Address, Base, Instruction, Second, Source};
-use crate::case::Case;
+use crate::case::{Case, Outcome, DE, IE, ZE};
 use crate::machine::{Answer, Machine, Step, StepOutcome, REGISTER_SIZE, VECTORS_SIZE};
 
 /// R4.19: what the rules answer to a step and leave of it.
@@ -29,14 +29,11 @@ fn carry_out(before: &Step, machine: &mut Machine) -> Result<u32, u32> {
     let instruction = decode(&before.code)?;
     // R4.13; R5.8: every source is read here, and nothing written yet
     let operands = gather(before, &instruction).ok_or(7_u32)?;
-    // R4.14; R7.2, R7.4: the flags are set for 0 and for 8
-    let (halves, flags) = compute(&before.machine, &instruction, &operands);
-    machine.control |= u32::from(flags);
-    if flags & unmasked(&before.machine, &instruction) != 0 {
-        return Err(8);
-    }
+    // R4.14; R7.2, R7.4: flags are set for 0 and for 8
+    let outcomes = compute(&before.machine, &instruction, &operands);
+    raise(machine, &instruction, &outcomes)?;
     // R4.15: destination and pointer
-    write_destination(machine, &instruction, &halves);
+    write_destination(machine, &instruction, &outcomes);
     let length = instruction.length as u32;
     machine.pointer = machine.pointer.wrapping_add(u64::from(length));
     Ok(length)
@@ -110,24 +107,43 @@ fn byte(memory: &[u8], address: u64) -> Option<u8> {
     memory.get(usize::try_from(address).ok()?).copied()
 }
 
-/// R7.1: the half of each lane that is on, and the flags that are set: those of all these lanes
-/// or-ed, none under embedded rounding (R7.5).
+/// What becomes of each lane that is on, by the arithmetic.
 fn compute(
     machine: &Machine,
     instruction: &Instruction,
     operands: &[Option<[u16; 3]>],
-) -> (Vec<Option<u16>>, u8) {
-    let (mut halves, mut flags) = (Vec::new(), 0);
-    for lane in operands {
-        let case = lane.map(|operands| lane_case(machine, instruction, operands));
-        let outcome = case.map(|case| super::answer(&case));
-        halves.push(outcome.map(|outcome| outcome.half));
-        flags |= outcome.map_or(0, |outcome| outcome.flags);
+) -> Vec<Option<Outcome>> {
+    let case = |operands| lane_case(machine, instruction, operands);
+    let lane = |operands: &Option<[u16; 3]>| operands.map(|o| super::answer(&case(o)));
+    operands.iter().map(lane).collect()
+}
+
+/// The exceptions that show in the operands, before anything is rounded.
+pub const EARLY: u8 = IE | DE | ZE;
+
+/// R7.1 to R7.4: two stages, each over all lanes that are on. The first looks for IE, DE and ZE,
+/// and if one that it finds is unmasked, there is no second. Under embedded rounding nothing is set
+/// (R7.5).
+fn raise(
+    machine: &mut Machine,
+    instruction: &Instruction,
+    outcomes: &[Option<Outcome>],
+) -> Result<(), u32> {
+    if instruction.embedded_mode.is_some() {
+        return Ok(());
     }
-    match instruction.embedded_mode {
-        Some(_) => (halves, 0),
-        None => (halves, flags),
+    let unmasked = unmasked(machine, instruction);
+    for stage in [EARLY, !EARLY] {
+        let mut stops = false;
+        for outcome in outcomes.iter().flatten() {
+            machine.control |= u32::from(outcome.flags & stage);
+            stops |= outcome.flags & stage & unmasked != 0;
+        }
+        if stops {
+            return Err(8);
+        }
     }
+    Ok(())
 }
 
 /// What the arithmetic is asked for a lane.
@@ -163,12 +179,16 @@ pub fn unmasked(machine: &Machine, instruction: &Instruction) -> u8 {
 }
 
 /// R5.9: by lanes, of which those above the vector become 0.
-fn write_destination(machine: &mut Machine, instruction: &Instruction, halves: &[Option<u16>]) {
+fn write_destination(
+    machine: &mut Machine,
+    instruction: &Instruction,
+    outcomes: &[Option<Outcome>],
+) {
     let destination = instruction.destination;
     for lane in 0..REGISTER_SIZE / 2 {
         let old = machine.lane(destination, lane);
-        let half = match halves.get(lane) {
-            Some(Some(half)) => *half,
+        let half = match outcomes.get(lane) {
+            Some(Some(outcome)) => outcome.half,
             Some(None) if instruction.zeroing => 0,
             Some(None) => old,
             None => 0,

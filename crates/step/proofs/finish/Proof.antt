@@ -6,6 +6,9 @@ use borrow.Author.Needs.{needs}
 use Rattle.step.proofs.finish.Statement.{statement}
 use Rattle.step.proofs.finish.Tie as tie
 
+added-requires : tie.Need-added-requires
+added-requires c κs = search needs
+
 recorded-requires : tie.Need-recorded-requires
 recorded-requires c κs = search needs
 
@@ -19,8 +22,8 @@ returns : tie.Need-returns
 unfolding finished
 returns c =
     let raised : tie.After-raises = c .before .before in
-    let start : tie.Start = raised .before .before .before .before in
-    rw (← raised .raises .ensures, c .before .if1 .taken, c .ended .ensures)
+    let start : tie.Start = raised .before .before .before .before .before in
+    rw (← raised .before .before .added .ensures, ← raised .raises .ensures, c .before .if1 .taken, c .ended .ensures)
     (ap (λ (word : Control). leftOf (record { number = 8; length = 0 }) (start .args .vectors .now) (word .bits)
     (start .args .pointer .now))
     (raised .before .recorded .ensures))
@@ -42,6 +45,7 @@ unfolding finished
 returns-2 c =
     let raised : tie.After-raises = c .before .before .before .before .before .before .before .before in
     rw (
+      ← raised .before .before .added .ensures,
       ← raised .raises .ensures,
       c .before .before .before .before .before .before .before .if1 .left,
       raised .before .recorded .ensures,
@@ -53,6 +57,7 @@ pub finish-spec : {M : Type 1} → statement M
 finish-spec =
     tie.close
     (tie.spec
+    added-requires
     recorded-requires
     raises-requires
     ended-requires

@@ -8,11 +8,11 @@ use native.Mathlib.Omega.{arith}
 use borrow.Author.Tests.{leb-true}
 use lib.Dec.{leb, lit≤}
 use Rattle.evex.specs.Bits.{isSet}
+use Rattle.evex.proofs.Bitwise.{bit-above}
 use Rattle.lists.specs.Lists.{some}
 use Rattle.lists.proofs.Tests.{either}
 use Rattle.machine.specs.Memory.{wordFrom, wordBytes, outside}
 use Rattle.step.proofs.Filling.{Found, found-none, found-more, found-all}
-use Rattle.step.proofs.Sets.{bit-above}
 use Rattle.step.proofs.Words.{none-outside}
 use borrow.Author.Needs.{needs}
 use Rattle.step.proofs.address.words_outside.Statement.{statement}

@@ -7,10 +7,10 @@ use native.Mathlib.Omega.{arith}
 use borrow.Author.Tests.{not-true, not-false}
 use lib.ListN.{getD-replicate}
 use Rattle.evex.specs.Bits.{isSet}
+use Rattle.evex.proofs.Bitwise.{bit-above}
 use Rattle.machine.specs.Lanes.{elementAt}
 use Rattle.step.specs.Work.{resultsWhere}
 use Rattle.step.proofs.Filling.{Filled, none, more, same, all, Ored, or-none, or-more, or-same, or-all}
-use Rattle.step.proofs.Sets.{bit-above}
 use borrow.Author.Needs.{needs}
 use Rattle.step.proofs.lanes.all_lanes.Statement.{statement}
 use Rattle.step.proofs.lanes.all_lanes.Tie as tie

@@ -7,10 +7,10 @@ use native.Mathlib.Omega.{arith}
 use lib.ListN.{getD-replicate}
 use Rattle.lists.specs.Lists.{numberAt}
 use Rattle.evex.specs.Bits.{isSet}
+use Rattle.evex.proofs.Bitwise.{bit-above}
 use Rattle.machine.specs.Memory.{wordFrom, wordBytes}
 use Rattle.machine.specs.Lanes.{memoryHalves}
 use Rattle.step.proofs.Filling.{Filled, none, more, all}
-use Rattle.step.proofs.Sets.{bit-above}
 use borrow.Author.Needs.{needs}
 use Rattle.step.proofs.sources.memory_halves.Statement.{statement}
 use Rattle.step.proofs.sources.memory_halves.Tie as tie

@@ -1,0 +1,157 @@
+-- R7.2, R7.4, R7.5: the statement of specs/ControlWord.antt. A step leaves `controlAfter`, be the answer 0 or 8; what each definition on
+-- the way to it says of one bit is a law, and they are put together.
+-- Assumes nothing.
+use Prim.Native.Nat.{ℕ, _+_, _<_, _≤_, _^_}
+use mathlib.Core.Path.{_≡_, refl, sym, _∙_}
+use mathlib.Core.Logic.{_↔_, _≢_, _⊎_, inl, inr, ⊎-elim, ⊎-map, Iff·rfl, Iff·trans, Iff·not, Iff·and}
+use mathlib.Core.Bool.{Bool, true, false, cond, not, _&&_, _||_, and-eq-true-iff, or-false, false≢true}
+use mathlib.Core.List.{List}
+use native.Mathlib.Omega.{arith}
+use borrow.Author.Tests.{lt-ltb, ltb-true, ne-eqb, eqb-false, not-true}
+use lib.Bits.{bitAnd, bitOr, and-zero-r}
+use lib.Dec.{eqb, ltb}
+use lib.ListN.{length}
+use Rattle.half.specs.declared.Mode.{Mode}
+use Rattle.lists.proofs.Tests.{either}
+use Rattle.evex.specs.Bits.{isSet}
+use Rattle.evex.specs.declared.Rounding.{Rounding}
+use Rattle.evex.specs.declared.Rounding.the-variants.{Control, Embedded}
+use Rattle.evex.specs.declared.Instruction.{Instruction}
+use Rattle.evex.proofs.Bitwise.{and-bit, or-bit, ones-bit, bit-above, inverted-bit, shared-bit, single-bit}
+use Rattle.machine.specs.State.{State, Stepped, unmaskedFlags}
+use Rattle.machine.specs.Memory.{needsOutside}
+use Rattle.machine.specs.Lanes.{recorded, raises, earlyFlags, added, gathered, laneOf, raised, raisesUnmasked, controlAfter}
+use Rattle.machine.specs.Step.{refused, stopped, completed, step}
+use Rattle.machine.specs.TwoRuns.{IsDecoded, SwitchesOn}
+use Rattle.machine.specs.ControlWord.{LaneRaises, StopsEarly, SetAfter, ControlAfter, ControlWord}
+use Rattle.machine.proofs.Ends.{step-decoded}
+use Rattle.machine.proofs.Flags.{added-below}
+use Rattle.machine.proofs.OffLanes.{off-lanes}
+
+-- ---- what the definitions say of a bit
+
+both-or : {A B C D : Type 0} → A ↔ B → C ↔ D → (A ⊎ C) ↔ (B ⊎ D)
+both-or h k = (⊎-map (h .0) (k .0), ⊎-map (h .1) (k .1))
+
+or-true : (a b : Bool) → ((a || b) ≡ true) ↔ ((a ≡ true) ⊎ (b ≡ true))
+or-true true b = ((λ _. inl refl), (λ _. refl))
+or-true false b = ((λ e. inr e), ⊎-elim (λ e. absurd (false≢true e)) (λ e. e))
+
+early-bit : (flags f : ℕ) → isSet (earlyFlags flags) f ≡ (isSet flags f && ltb f 3)
+early-bit flags f = and-bit flags 7 f ∙ rw (ones-bit 3 f)
+
+unmasked-bit : (control f : ℕ) → f < 6 → isSet (unmaskedFlags control) f ≡ not (isSet control (7 + f))
+unmasked-bit control f h = inverted-bit control 7 6 f h
+
+module _ (control flags : ℕ) where
+  -- an early flag is raised whose exception is unmasked
+  abbrev Early : Type 0
+  Early = (f : ℕ) × (f < 3) × (isSet control (7 + f) ≡ false) × (isSet flags f ≡ true)
+
+  found : raises Control control (earlyFlags flags) ≡ true → Early
+  found e =
+      let r : (f : ℕ) × (isSet (earlyFlags flags) f ≡ true) × (isSet (unmaskedFlags control) f ≡ true) =
+      shared-bit (earlyFlags flags) (unmaskedFlags control) .0 (eqb-false _ 0 (not-true _ e)) in
+      let f : ℕ = r .0 in
+      let b : (isSet flags f ≡ true) × (ltb f 3 ≡ true) = and-eq-true-iff _ _ .0 (sym (early-bit flags f) ∙ r .1) in
+      let h : f < 3 = ltb-true f 3 (b .1) in
+      (f, h, not-true _ (sym (unmasked-bit control f (omega arith)) ∙ r .2), b .0)
+
+  finds : Early → raises Control control (earlyFlags flags) ≡ true
+  finds r =
+      let f : ℕ = r .0 in
+      let e : isSet (earlyFlags flags) f ≡ true = early-bit flags f ∙ rw (r .3, lt-ltb f 3 (r .1)) in
+      let u : isSet (unmaskedFlags control) f ≡ true = unmasked-bit control f (omega (arith, r .1)) ∙ rw (r .2) in
+      rw (ne-eqb (bitAnd (earlyFlags flags) (unmaskedFlags control)) 0 (shared-bit _ _ .1 (f, e, u)))
+
+  -- what is added
+  added-bit : (f : ℕ)
+      → (isSet (added Control control flags) f ≡ true)
+      ↔ ((isSet flags f ≡ true) × ((f < 3) ⊎ ¬ (raises Control control (earlyFlags flags) ≡ true)))
+  added-bit f = go (raises Control control (earlyFlags flags))
+    where
+      go : (t : Bool) → (isSet (cond t (earlyFlags flags) flags) f ≡ true) ↔ ((isSet flags f ≡ true) × ((f < 3) ⊎ ¬ (t ≡ true)))
+      go true = (
+        (λ h.
+            let b : (isSet flags f ≡ true) × (ltb f 3 ≡ true) = and-eq-true-iff _ _ .0 (sym (early-bit flags f) ∙ h) in
+            (b .0, inl (ltb-true f 3 (b .1)))),
+        (λ h. early-bit flags f ∙ rw (h .0, lt-ltb f 3 (⊎-elim (λ l. l) (λ n. absurd (n refl)) (h .1)))),
+      )
+      go false = ((λ h. (h, inr false≢true)), (λ h. h .0))
+
+-- what is recorded of them, by the rounding
+recorded-bit : (r : Rounding) (control flags f : ℕ) → r ≡ Control
+    → isSet (recorded r control (added r control flags)) f ≡ (isSet control f || isSet (added Control control flags) f)
+recorded-bit r control flags f e = rw e (or-bit control (added Control control flags) f)
+
+recorded-embedded : (r : Rounding) (mode : Mode) (control flags : ℕ) → r ≡ Embedded mode
+    → (raises r control flags ≡ false) × (recorded r control (added r control flags) ≡ control)
+recorded-embedded r mode control flags e = rw e (rw (and-zero-r flags), refl)
+
+-- nothing above the flags
+recorded-above : (r : Rounding) (control flags n : ℕ) → flags < 64 → 6 ≤ n → isSet (recorded r control flags) n ≡ isSet control n
+recorded-above Control control flags n h l = or-bit control flags n ∙ rw (bit-above flags 6 n h l) (or-false (isSet control n))
+recorded-above (Embedded mode) control flags n h l = refl
+
+-- ---- a step
+
+module _ (memory : List ℕ) (s : State) (code : List ℕ) (i : Instruction) (d : IsDecoded s code i)
+    (there : step memory s code .answer .number ≢ 7) where
+  abbrev all : ℕ
+  all = raised s i (gathered memory s i)
+
+  inside : needsOutside s i (length memory) ≡ false
+  inside = go (needsOutside s i (length memory)) refl
+    where
+      go : (t : Bool) → needsOutside s i (length memory) ≡ t → needsOutside s i (length memory) ≡ false
+      go true e = absurd (there (rw (step-decoded memory s code d, e)))
+      go false e = e
+
+  ends : step memory s code
+      ≡ cond (raisesUnmasked s i (gathered memory s i)) (stopped memory s i) (completed memory s i)
+  ends = step-decoded memory s code d ∙ rw inside
+
+  control-is : step memory s code .state .control ≡ controlAfter s i (gathered memory s i)
+  unfolding stopped completed
+  control-is =
+      rw ends
+      (either (λ (o : Stepped). o .state .control ≡ controlAfter s i (gathered memory s i))
+      (raisesUnmasked s i (gathered memory s i)) refl refl)
+
+  -- ---- its flags
+
+  raised-bit : (f : ℕ) → (isSet all f ≡ true) ↔ LaneRaises memory s i f
+  raised-bit f =
+      let lanes : (bitAnd all (2 ^ f) ≢ 0)
+      ↔ ((j : ℕ) × SwitchesOn s i j × (bitAnd (laneOf s i (gathered memory s i) j .flags) (2 ^ f) ≢ 0)) =
+      off-lanes s code i (d .1) .2 (gathered memory s i) (2 ^ f) in (
+        (λ e. let k = lanes .0 (single-bit all f .0 e) in (k .0, k .1, single-bit _ f .1 (k .2))),
+        (λ k. single-bit all f .1 (lanes .1 (k .0, k .1, single-bit _ f .0 (k .2)))),
+      )
+
+  stops-early : (raises Control (s .control) (earlyFlags all) ≡ true) ↔ StopsEarly memory s i
+  stops-early = (
+    (λ e. let r : Early (s .control) all = found (s .control) all e in (r .0, r .1, r .2, raised-bit (r .0) .0 (r .3))),
+    (λ r. finds (s .control) all (r .0, r .1, r .2, raised-bit (r .0) .1 (r .3))),
+  )
+
+  set-after : (f : ℕ) → ((isSet (s .control) f || isSet (added Control (s .control) all) f) ≡ true) ↔ SetAfter memory s i f
+  set-after f =
+      Iff·trans (or-true _ _)
+      (both-or Iff·rfl (Iff·trans (added-bit (s .control) all f) (Iff·and (raised-bit f) (both-or Iff·rfl (Iff·not stops-early)))))
+
+  word-after : ControlAfter memory s i (step memory s code)
+  unfolding controlAfter raisesUnmasked completed
+  word-after =
+      record {
+        flags = λ r f h. rw (control-is, recorded-bit (i .rounding) (s .control) all f r) (set-after f);
+        others =
+            λ n h. rw control-is
+            (recorded-above (i .rounding) (s .control) _ n (added-below s i (gathered memory s i)) h);
+        embedded =
+            λ mode r. let none = recorded-embedded (i .rounding) mode (s .control) all r in
+            (rw (ends, none .0) (λ e. omega arith), control-is ∙ none .1);
+      }
+
+pub control-word : ControlWord
+control-word memory s code i d there = word-after memory s code i d there

@@ -1,0 +1,16 @@
+-- `step::control::Control::added` meets its contract: by whether an early flag is of an exception that is not masked.
+use borrow.Author.Needs.{needs}
+use Rattle.step.proofs.control.Control.added.Statement.{statement}
+use Rattle.step.proofs.control.Control.added.Tie as tie
+
+raises-requires : tie.Need-raises-requires
+raises-requires c κs = search needs
+
+returns : tie.Need-returns
+returns c = rw (← c .before .raises .ensures, c .if1 .taken)
+
+returns-2 : tie.Need-returns-2
+returns-2 c = rw (← c .before .raises .ensures, c .if1 .left)
+
+pub added-spec : {M : Type 1} → statement M
+added-spec = tie.close (tie.spec raises-requires returns returns-2)
