@@ -164,18 +164,26 @@ const FEATURES: &[Feature] = &[
         let masked = s.added_flags() & !s.unmasked_raised()?;
         yes(masked != 0)
     }),
-    ("stop: early, late, late beside a masked early flag", 3, |s| {
-        let stops = s.raised()? & unmasked(&s.before.machine, s.instruction?);
-        Some(match (stops & EARLY, s.raised()? & EARLY) {
-            (0, 0) => 1,
-            (0, _) => 2,
-            _ => 0,
-        })
-    }),
-    ("left out of an early stop: OE, UE without it, PE alone", 3, |s| {
-        let left_out = s.raised()? & !(s.outcome.after.machine.control as u8);
-        yes(left_out != 0).map(|_| left_out.trailing_zeros() as usize - 3)
-    }),
+    (
+        "stop: early, late, late beside a masked early flag",
+        3,
+        |s| {
+            let stops = s.raised()? & unmasked(&s.before.machine, s.instruction?);
+            Some(match (stops & EARLY, s.raised()? & EARLY) {
+                (0, 0) => 1,
+                (0, _) => 2,
+                _ => 0,
+            })
+        },
+    ),
+    (
+        "left out of an early stop: OE, UE without it, PE alone",
+        3,
+        |s| {
+            let left_out = s.raised()? & !(s.outcome.after.machine.control as u8);
+            yes(left_out != 0).map(|_| left_out.trailing_zeros() as usize - 3)
+        },
+    ),
     ("unmasked flag left from before, done", 6, |s| {
         let instruction = s.done()?;
         single_bit(s.before.machine.control as u8 & unmasked(&s.before.machine, instruction))

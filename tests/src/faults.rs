@@ -63,9 +63,11 @@ pub const FAULTS: [Fault; 27] = [
     }),
     ("the early stage by the lane alone", |step, outcome| {
         if outcome.answer.number == 8 {
-            add_flags(step, outcome, |unmasked, flags| match flags & EARLY & unmasked {
-                0 => flags,
-                _ => flags & EARLY,
+            add_flags(step, outcome, |unmasked, flags| {
+                match flags & EARLY & unmasked {
+                    0 => flags,
+                    _ => flags & EARLY,
+                }
             });
         }
     }),

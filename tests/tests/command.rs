@@ -144,9 +144,9 @@ fn a_pointer_of_its_own() {
     // A subnormal, unmasked, at address 0 and then at 10.
     let memory = [0x01, 0, 0, 0, 0, 0, 0, 0, 0, 0, 0x01, 0];
     for (number, (pointer, known)) in [
-        (-10, "0 8 00001ea2\nstop 0\n"),
+        (-10, "0 8 00001e82\nstop 0\n"),
         (-8, "0 0 00001e80\n10 7 00001e80\nstop 10\n"),
-        (0, "0 8 00001ea2\nstop 0\n"),
+        (0, "0 8 00001e82\nstop 0\n"),
         (1, "0 7 00001e80\nstop 0\n"),
         (-20, "0 7 00001e80\nstop 0\n"),
         (1000, "0 7 00001e80\nstop 0\n"),
@@ -199,7 +199,7 @@ fn lengths_of_memory() {
     let mut memory = vec![0; MEMORY_LIMIT];
     memory[MEMORY_LIMIT - 2] = 1;
     let bytes = input(&machine, &ADD_MEMORY, &memory);
-    command.prints(0, &bytes, "0 8 00001ea2\nstop 0\n");
+    command.prints(0, &bytes, "0 8 00001e82\nstop 0\n");
     let bytes = input(&machine, &ADD_MEMORY, &memory[1..]);
     command.prints(1, &bytes, "0 7 00001e80\nstop 0\n");
     // Totals around those of a program's buffers are among them.

@@ -3,8 +3,10 @@
 
 use ridgecrook_tests::compare::log;
 use ridgecrook_tests::differences::Difference;
+use ridgecrook_tests::faults::FAULTS;
 use ridgecrook_tests::machine::{Step, StepOutcome};
 use ridgecrook_tests::recorded::{compare, path};
+use ridgecrook_tests::step_line::shown_outcome;
 use ridgecrook_tests::{library, second};
 
 /// The lines of the file that are cases, whose number its head has.
@@ -84,5 +86,32 @@ fn a_wrong_outcome_is_found_out() {
         assert!(cases(&text)
             .iter()
             .all(|line| compare(line, answer).is_err()));
+    }
+}
+
+/// R7.4: what the processor said refutes the wrong readings of the two stages, whatever the second
+/// program makes of them.
+#[test]
+fn the_recorded_processor_has_two_stages() {
+    let text = std::fs::read_to_string(path()).expect("tests/data/processor.txt");
+    for (name, spoil) in FAULTS
+        .iter()
+        .filter(|(name, _)| name.contains("early stage"))
+    {
+        let (mut made, mut refuted) = (0, 0);
+        for line in cases(&text) {
+            let step: Step = line.parse().expect(line);
+            let right = library::step_outcome(&step);
+            let mut wrong = right.clone();
+            spoil(&step, &mut wrong);
+            if wrong != right {
+                let (_, said) = line.split_once("=> ").expect("an outcome");
+                made += 1;
+                refuted += u32::from(said != shown_outcome(&step, &wrong));
+            }
+        }
+        log(&format!("{name}: {made} of the recorded cases"));
+        assert!(made >= 20, "{name}: {made}");
+        assert_eq!(refuted, made, "{name}");
     }
 }

@@ -55,8 +55,8 @@ fn code(cell: &str) -> Option<&str> {
 }
 
 /// Holds the rows that are steps, or those that are not, against both programs. Hands back how many
-/// there are, and how many have the mark.
-fn check<C>(steps: bool, mark: &str, answer: fn(&C) -> C::Outcome) -> (usize, usize)
+/// there are, and how many are marked * and +.
+fn check<C>(steps: bool, answer: fn(&C) -> C::Outcome) -> (usize, [usize; 2])
 where
     C: Compared + FromStr<Err = String>,
 {
@@ -68,18 +68,18 @@ where
         let both = [case.expected(), answer(&case)].map(|outcome| case.shown(&outcome));
         assert_eq!(both, [*gives; 2], "second program, library: {tried}");
     }
-    let marked = rows.iter().filter(|row| row.mark == mark).count();
-    (rows.len(), marked)
+    let marked = |mark| rows.iter().filter(|row| row.mark == mark).count();
+    (rows.len(), ["*", "+"].map(marked))
 }
 
 #[test]
 fn arithmetic_examples() {
-    assert_eq!(check::<Case>(false, "*", library::answer), (27, 18));
+    assert_eq!(check::<Case>(false, library::answer), (27, [18, 0]));
 }
 
 #[test]
 fn step_examples() {
-    assert_eq!(check::<Step>(true, "+", library::step_outcome), (40, 7));
+    assert_eq!(check::<Step>(true, library::step_outcome), (44, [3, 7]));
 }
 
 /// What stands behind some text, up to the end of the block of code that it begins.

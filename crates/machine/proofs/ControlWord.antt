@@ -1,8 +1,8 @@
--- R7.2, R7.4, R7.5: the statement of specs/ControlWord.antt. A step leaves `controlAfter`, be the answer 0 or 8; what each definition on
--- the way to it says of one bit is a law, and they are put together.
+-- R7.2, R7.4, R7.5: the statement of specs/ControlWord.antt. What each definition on the way to `controlAfter` says of one bit is a law;
+-- a step leaves that word, be the answer 0 or 8, and the laws are put together.
 -- Assumes nothing.
 use Prim.Native.Nat.{ℕ, _+_, _<_, _≤_, _^_}
-use mathlib.Core.Path.{_≡_, refl, sym, _∙_}
+use mathlib.Core.Path.{_≡_, refl, sym, ap, _∙_}
 use mathlib.Core.Logic.{_↔_, _≢_, _⊎_, inl, inr, ⊎-elim, ⊎-map, Iff·rfl, Iff·trans, Iff·not, Iff·and}
 use mathlib.Core.Bool.{Bool, true, false, cond, not, _&&_, _||_, and-eq-true-iff, or-false, false≢true}
 use mathlib.Core.List.{List}
@@ -86,7 +86,7 @@ recorded-bit r control flags f e = rw e (or-bit control (added Control control f
 
 recorded-embedded : (r : Rounding) (mode : Mode) (control flags : ℕ) → r ≡ Embedded mode
     → (raises r control flags ≡ false) × (recorded r control (added r control flags) ≡ control)
-recorded-embedded r mode control flags e = rw e (rw (and-zero-r flags), refl)
+recorded-embedded r mode control flags e = rw e (ap (λ (n : ℕ). not (eqb n 0)) (and-zero-r flags), refl)
 
 -- nothing above the flags
 recorded-above : (r : Rounding) (control flags n : ℕ) → flags < 64 → 6 ≤ n → isSet (recorded r control flags) n ≡ isSet control n
@@ -111,12 +111,13 @@ module _ (memory : List ℕ) (s : State) (code : List ℕ) (i : Instruction) (d 
       ≡ cond (raisesUnmasked s i (gathered memory s i)) (stopped memory s i) (completed memory s i)
   ends = step-decoded memory s code d ∙ rw inside
 
-  control-is : step memory s code .state .control ≡ controlAfter s i (gathered memory s i)
-  unfolding stopped completed
+  abbrev after : ℕ
+  after = recorded (i .rounding) (s .control) (added (i .rounding) (s .control) all)
+
+  control-is : step memory s code .state .control ≡ after
+  unfolding stopped completed controlAfter
   control-is =
-      rw ends
-      (either (λ (o : Stepped). o .state .control ≡ controlAfter s i (gathered memory s i))
-      (raisesUnmasked s i (gathered memory s i)) refl refl)
+      rw ends (either (λ (o : Stepped). o .state .control ≡ after) (raisesUnmasked s i (gathered memory s i)) refl refl)
 
   -- ---- its flags
 
@@ -141,7 +142,7 @@ module _ (memory : List ℕ) (s : State) (code : List ℕ) (i : Instruction) (d 
       (both-or Iff·rfl (Iff·trans (added-bit (s .control) all f) (Iff·and (raised-bit f) (both-or Iff·rfl (Iff·not stops-early)))))
 
   word-after : ControlAfter memory s i (step memory s code)
-  unfolding controlAfter raisesUnmasked completed
+  unfolding raisesUnmasked completed
   word-after =
       record {
         flags = λ r f h. rw (control-is, recorded-bit (i .rounding) (s .control) all f r) (set-after f);

@@ -62,14 +62,15 @@ fn finish(
 {
     let word = Control { bits: *control };
     let rounding = i.rounding;
-    let flagged = word.recorded(rounding, word.added(rounding, results.flags));
     if word.raises(rounding, results.flags) {
+        let flagged = word.recorded(rounding, word.added(rounding, results.flags));
         *control = flagged.bits;
         return ended(8);
     }
     let halves = results.halves;
     let kept = lanes_kept(on, i);
     store(vectors, i.destination, kept, halves);
+    let flagged = word.recorded(rounding, results.flags);
     *control = flagged.bits;
     *pointer = next;
     Answer {

@@ -1,10 +1,15 @@
--- `step::finish` meets its contract: 8 leaves all but the flags, and 0 has the destination stored: `finished` by its two cases.
-use mathlib.Core.Path.{ap}
+-- `step::finish` meets its contract: 8 leaves all but the flags, and 0 has the destination stored: `finished` by its two cases. Where
+-- nothing stops it, no flag is left out.
+use mathlib.Core.Path.{sym, ap, _∙_}
+use Rattle.machine.proofs.Flags.{all-added}
 use Rattle.step.specs.Work.{leftOf, finished}
 use Rattle.step.specs.declared.control.Control.{Control}
 use borrow.Author.Needs.{needs}
 use Rattle.step.proofs.finish.Statement.{statement}
 use Rattle.step.proofs.finish.Tie as tie
+
+raises-requires : tie.Need-raises-requires
+raises-requires c κs = search needs
 
 added-requires : tie.Need-added-requires
 added-requires c κs = search needs
@@ -12,21 +17,18 @@ added-requires c κs = search needs
 recorded-requires : tie.Need-recorded-requires
 recorded-requires c κs = search needs
 
-raises-requires : tie.Need-raises-requires
-raises-requires c κs = search needs
-
 ended-requires : tie.Need-ended-requires
 ended-requires c κs = search needs
 
 returns : tie.Need-returns
 unfolding finished
 returns c =
-    let raised : tie.After-raises = c .before .before in
-    let start : tie.Start = raised .before .before .before .before .before in
-    rw (← raised .before .before .added .ensures, ← raised .raises .ensures, c .before .if1 .taken, c .ended .ensures)
+    let raised : tie.After-raises = c .before .before .before .before in
+    let start : tie.Start = raised .before .before .before in
+    rw (← c .before .before .added .ensures, ← raised .raises .ensures, c .before .before .before .if1 .taken, c .ended .ensures)
     (ap (λ (word : Control). leftOf (record { number = 8; length = 0 }) (start .args .vectors .now) (word .bits)
     (start .args .pointer .now))
-    (raised .before .recorded .ensures))
+    (c .before .recorded .ensures))
 
 lanes-kept-requires : tie.Need-lanes-kept-requires
 lanes-kept-requires c κs = search needs
@@ -34,8 +36,11 @@ lanes-kept-requires c κs = search needs
 store-requires : tie.Need-store-requires
 store-requires c κs = search needs
 
-cast-t13 : tie.Need-cast-t13
-cast-t13 c = search needs
+recorded-requires-2 : tie.Need-recorded-requires-2
+recorded-requires-2 c κs = search needs
+
+cast-t14 : tie.Need-cast-t14
+cast-t14 c = search needs
 
 same-length : tie.Need-same-length
 same-length c = search needs
@@ -43,27 +48,28 @@ same-length c = search needs
 returns-2 : tie.Need-returns-2
 unfolding finished
 returns-2 c =
-    let raised : tie.After-raises = c .before .before .before .before .before .before .before .before in
+    let raised : tie.After-raises = c .before .before .before .before .before .before .before .before .before in
+    let none = sym (raised .raises .ensures) ∙ c .before .before .before .before .before .before .before .before .if1 .left in
     rw (
-      ← raised .before .before .added .ensures,
-      ← raised .raises .ensures,
-      c .before .before .before .before .before .before .before .if1 .left,
-      raised .before .recorded .ensures,
-      c .before .before .before .store .ensures,
-      c .before .before .before .before .before .lanes-kept .ensures,
+      all-added _ _ _ none,
+      none,
+      c .before .recorded2 .ensures,
+      c .before .before .before .before .store .ensures,
+      c .before .before .before .before .before .before .lanes-kept .ensures,
     )
 
 pub finish-spec : {M : Type 1} → statement M
 finish-spec =
     tie.close
     (tie.spec
+    raises-requires
     added-requires
     recorded-requires
-    raises-requires
     ended-requires
     returns
     lanes-kept-requires
     store-requires
-    cast-t13
+    recorded-requires-2
+    cast-t14
     same-length
     returns-2)
