@@ -7,11 +7,12 @@ use mathlib.Core.Bool.{Bool, true, false, not, _&&_, _||_, and-true, and-eq-true
 use native.Mathlib.Decide.{decLt}
 use native.Mathlib.Nat.{zero-div, one-mul, div-eq-of-lt, lt-of-lt-of-le, mod-lt, mod-eq-of-lt}
 use native.Mathlib.Omega.{arith}
-use borrow.Author.Tests.{lt-ltb, le-ltb, eq-eqb, eqb-true}
+use borrow.Author.Tests.{lt-ltb, le-ltb, eq-eqb, ne-eqb, eqb-false, not-true}
 use lib.Arith.{digits-div}
 use lib.Bits.{bitAnd, bitOr, bitXor, and-shr, and-mod, or-shr, or-mod, xor-shr, xor-mod, xor-add-and, and-mask, and-high}
 use lib.Dec.{eqb, ltb}
 use lib.Pow.{pow-pos, pow-mono, ones-lt, ones-split, high-ones, shr-shr}
+use Rattle.lists.proofs.Tables.{meets}
 use Rattle.evex.specs.Bits.{bits, isSet, inverted}
 
 -- ---- an operation that goes bit by bit, from what it does with 0 and 1
@@ -113,14 +114,24 @@ some-bit (suc n) x h z =
       | no e ↦ (0, eq-eqb (x / 2 ^ 0 % 2 ^ 1) 1 (omega arith))
     ]
 
-pub shared-bit : (x y : ℕ) → (bitAnd x y ≢ 0) ↔ ((j : ℕ) × (isSet x j ≡ true) × (isSet y j ≡ true))
-shared-bit x y = (
-  (λ z.
-      let r : (j : ℕ) × (isSet (bitAnd x y) j ≡ true) = some-bit (bitAnd x y) (bitAnd x y) (omega arith) z in
+pub meets-bit : (x y : ℕ) → (meets y x ≡ true) ↔ ((j : ℕ) × (isSet x j ≡ true) × (isSet y j ≡ true))
+meets-bit x y = (
+  (λ e.
+      let r : (j : ℕ) × (isSet (bitAnd x y) j ≡ true) =
+      some-bit (bitAnd x y) (bitAnd x y) (omega arith) (eqb-false (bitAnd x y) 0 (not-true _ e)) in
       let b : (isSet x (r .0) ≡ true) × (isSet y (r .0) ≡ true) = and-eq-true-iff _ _ .0 (sym (and-bit x y (r .0)) ∙ r .1) in
       (r .0, b .0, b .1)),
-  (λ r e. false≢true (sym (no-bit (r .0)) ∙ rw (← e) (and-bit x y (r .0) ∙ rw (r .1, r .2)))),
+  (λ r.
+      let none : bitAnd x y ≢ 0 =
+      λ e. false≢true (sym (no-bit (r .0)) ∙ rw (← e) (and-bit x y (r .0) ∙ rw (r .1, r .2))) in
+      rw (ne-eqb (bitAnd x y) 0 none)),
 )
+
+-- some of them is enough
+pub meets-part : (x y m : ℕ) → meets y (bitAnd x m) ≡ true → meets y x ≡ true
+meets-part x y m e =
+    let r : (j : ℕ) × (isSet (bitAnd x m) j ≡ true) × (isSet y j ≡ true) = meets-bit (bitAnd x m) y .0 e in
+    meets-bit x y .1 (r .0, and-eq-true-iff _ _ .0 (sym (and-bit x m (r .0)) ∙ r .1) .0, r .2)
 
 -- `&` with a single bit asks for that bit
 pub single-bit : (x j : ℕ) → (isSet x j ≡ true) ↔ (bitAnd x (2 ^ j) ≢ 0)

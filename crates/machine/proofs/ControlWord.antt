@@ -7,8 +7,8 @@ use mathlib.Core.Logic.{_↔_, _≢_, _⊎_, inl, inr, ⊎-elim, ⊎-map, Iff·r
 use mathlib.Core.Bool.{Bool, true, false, cond, not, _&&_, _||_, and-eq-true-iff, or-false, false≢true}
 use mathlib.Core.List.{List}
 use native.Mathlib.Omega.{arith}
-use borrow.Author.Tests.{lt-ltb, ltb-true, ne-eqb, eqb-false, not-true}
-use lib.Bits.{bitAnd, bitOr, and-zero-r}
+use borrow.Author.Tests.{lt-ltb, ltb-true, not-true}
+use lib.Bits.{bitAnd, and-zero-r}
 use lib.Dec.{eqb, ltb}
 use lib.ListN.{length}
 use Rattle.half.specs.declared.Mode.{Mode}
@@ -17,11 +17,11 @@ use Rattle.evex.specs.Bits.{isSet}
 use Rattle.evex.specs.declared.Rounding.{Rounding}
 use Rattle.evex.specs.declared.Rounding.the-variants.{Control, Embedded}
 use Rattle.evex.specs.declared.Instruction.{Instruction}
-use Rattle.evex.proofs.Bitwise.{and-bit, or-bit, ones-bit, bit-above, inverted-bit, shared-bit, single-bit}
+use Rattle.evex.proofs.Bitwise.{and-bit, or-bit, ones-bit, bit-above, inverted-bit, meets-bit, single-bit}
 use Rattle.machine.specs.State.{State, Stepped, unmaskedFlags}
 use Rattle.machine.specs.Memory.{needsOutside}
 use Rattle.machine.specs.Lanes.{recorded, raises, earlyFlags, added, gathered, laneOf, raised, raisesUnmasked, controlAfter}
-use Rattle.machine.specs.Step.{refused, stopped, completed, step}
+use Rattle.machine.specs.Step.{stopped, completed, step}
 use Rattle.machine.specs.TwoRuns.{IsDecoded, SwitchesOn}
 use Rattle.machine.specs.ControlWord.{LaneRaises, StopsEarly, SetAfter, ControlAfter, ControlWord}
 use Rattle.machine.proofs.Ends.{step-decoded}
@@ -51,7 +51,7 @@ module _ (control flags : ℕ) where
   found : raises Control control (earlyFlags flags) ≡ true → Early
   found e =
       let r : (f : ℕ) × (isSet (earlyFlags flags) f ≡ true) × (isSet (unmaskedFlags control) f ≡ true) =
-      shared-bit (earlyFlags flags) (unmaskedFlags control) .0 (eqb-false _ 0 (not-true _ e)) in
+      meets-bit (earlyFlags flags) (unmaskedFlags control) .0 e in
       let f : ℕ = r .0 in
       let b : (isSet flags f ≡ true) × (ltb f 3 ≡ true) = and-eq-true-iff _ _ .0 (sym (early-bit flags f) ∙ r .1) in
       let h : f < 3 = ltb-true f 3 (b .1) in
@@ -62,7 +62,7 @@ module _ (control flags : ℕ) where
       let f : ℕ = r .0 in
       let e : isSet (earlyFlags flags) f ≡ true = early-bit flags f ∙ rw (r .3, lt-ltb f 3 (r .1)) in
       let u : isSet (unmaskedFlags control) f ≡ true = unmasked-bit control f (omega (arith, r .1)) ∙ rw (r .2) in
-      rw (ne-eqb (bitAnd (earlyFlags flags) (unmaskedFlags control)) 0 (shared-bit _ _ .1 (f, e, u)))
+      meets-bit (earlyFlags flags) (unmaskedFlags control) .1 (f, e, u)
 
   -- what is added
   added-bit : (f : ℕ)

@@ -2,10 +2,9 @@
 -- Assumes nothing.
 use Prim.Native.Nat.{ℕ, _<_}
 use mathlib.Core.Path.{_≡_, refl, sym, _∙_}
-use mathlib.Core.Bool.{Bool, true, false, cond, _&&_, _||_, and-eq-true-iff}
+use mathlib.Core.Bool.{Bool, true, false, cond, _&&_, _||_, true≢false}
 use mathlib.Core.List.{List}
 use native.Mathlib.Omega.{arith}
-use borrow.Author.Tests.{eqb-true, eqb-false, not-true, not-false}
 use lib.Bits.{bitOr, or-lt, and-le-l}
 use lib.Dec.{lit≤}
 use Rattle.half.specs.Format.{isNan, isSignalling, isSubnormal}
@@ -24,10 +23,9 @@ use Rattle.machine.specs.State.{State}
 use Rattle.machine.specs.Memory.{on}
 use Rattle.machine.specs.Lanes.{Sources, unmasked, raises, earlyFlags, added, operated, raised}
 use Rattle.machine.specs.declared.Environment.{Environment}
-use Rattle.evex.specs.Bits.{isSet}
 use Rattle.evex.specs.declared.Rounding.{Rounding}
 use Rattle.evex.specs.declared.Instruction.{Instruction}
-use Rattle.evex.proofs.Bitwise.{and-bit, shared-bit}
+use Rattle.evex.proofs.Bitwise.{meets-part}
 
 pub record Six (o : Outcome) : Type 0 where
   pub six : o .flags < 64
@@ -124,16 +122,9 @@ added-below s i g =
 
 -- ---- where nothing stops the instruction, nothing is left out
 
-early-masked : (r : Rounding) (control flags : ℕ) → raises r control flags ≡ false → raises r control (earlyFlags flags) ≡ false
-early-masked r control flags e = go (raises r control (earlyFlags flags)) refl
-  where
-    go : (t : Bool) → raises r control (earlyFlags flags) ≡ t → t ≡ false
-    go false h = refl
-    go true h =
-        let k : (j : ℕ) × (isSet (earlyFlags flags) j ≡ true) × (isSet (unmasked r control) j ≡ true) =
-        shared-bit (earlyFlags flags) (unmasked r control) .0 (eqb-false _ 0 (not-true _ h)) in
-        let b : isSet flags (k .0) ≡ true = and-eq-true-iff _ _ .0 (sym (and-bit flags 7 (k .0)) ∙ k .1) .0 in
-        absurd (shared-bit flags (unmasked r control) .1 (k .0, b, k .2) (eqb-true _ 0 (not-false _ e)))
-
 pub all-added : (r : Rounding) (control flags : ℕ) → raises r control flags ≡ false → added r control flags ≡ flags
-all-added r control flags e = rw (early-masked r control flags e)
+all-added r control flags e = go (raises r control (earlyFlags flags)) refl
+  where
+    go : (t : Bool) → raises r control (earlyFlags flags) ≡ t → cond t (earlyFlags flags) flags ≡ flags
+    go true h = absurd (true≢false (sym (meets-part flags (unmasked r control) 7 h) ∙ e))
+    go false h = refl
