@@ -50,6 +50,7 @@ static const uint8_t ADD_MEMORY[] = {0x62, 0xF5, 0x74, 0x49, 0x58, 0x00}; /* k1,
 static const uint8_t ADD_DISP8[] = {0x62, 0xF5, 0x74, 0xC9, 0x58, 0x40, 0x01};
 static const uint8_t ADD_BROADCAST[] = {0x62, 0xF5, 0x74, 0xD9, 0x58, 0x40, 0x01};
 static const uint8_t MULTIPLY[] = {0x62, 0xF5, 0x74, 0x48, 0x59, 0xC2};
+static const uint8_t DIVIDE[] = {0x62, 0xF5, 0x74, 0x49, 0x5E, 0xC2}; /* masked by k1 */
 
 /* Every answer that can be had, with what it leaves: everything, if nothing else is said. */
 static void check_refusals(void) {
@@ -137,6 +138,30 @@ static void check_exception(void) {
     check(same(&m, &before), "and all else is as before");
 }
 
+/* R7.4: 1/0 in lane 0 and 1/3 in lane 1, with ZE unmasked, PE, and both. */
+static void check_stages(void) {
+    static const struct {
+        uint32_t control, flags;
+        const char *what;
+    } rows[] = {
+        {0x1D80, RIDGECROOK_ZE, "ZE unmasked: PE of the other lane is not added"},
+        {0x0F80, RIDGECROOK_ZE | RIDGECROOK_PE, "PE unmasked: the masked ZE is added too"},
+        {0x0D80, RIDGECROOK_ZE, "ZE and PE unmasked: ZE alone is added"},
+    };
+    for (size_t i = 0; i < sizeof rows / sizeof rows[0]; i++) {
+        machine m, before;
+        blank(&m);
+        fill(&m, 1, 0x3C00);
+        set(&m, 2, 1, 0x4200);
+        m.masks[1] = 3;
+        m.control = rows[i].control;
+        before = m;
+        ridgecrook_answer answer = step(&m, DIVIDE, sizeof DIVIDE, NULL, 0);
+        before.control |= rows[i].flags;
+        check(is(answer, RIDGECROOK_EXCEPTION, 0) && same(&m, &before), rows[i].what);
+    }
+}
+
 /* R3.13: RAX+2 under broadcast, RAX+64 without. R5.7: memory of 1 byte and of 2. */
 static void check_memory(void) {
     static const uint8_t memory[130] = {[4] = 0x00, [5] = 0x3C, [66] = 0x00, [67] = 0x40};
@@ -212,6 +237,7 @@ int main(void) {
     check_sizes();
     check_registers();
     check_exception();
+    check_stages();
     check_memory();
     check_null();
     check_ends();
