@@ -225,8 +225,8 @@ const TRAPS: &[Row] = &[
     ),
 ];
 
-/// R7.4: which flags 8 leaves. Lanes: 1/0 has ZE, 1/3 PE, 0/0 IE, 0001/3C00 DE, 7BFF/3800 OE and PE,
-/// 0401/4000 UE and PE; all others are 0/0 and off, but in the last row.
+/// R7.4: which flags 8 leaves. Of the lanes 1/0 has ZE, 1/3 PE, 0/0 IE, 0001/3C00 DE, 7BFF/3800 OE
+/// and PE, 0401/4000 UE and PE; all others are 0/0 and off, but in the last row.
 const STAGES: &[Row] = &[
     // ZE unmasked, PE of the other lane masked.
     (

@@ -30,7 +30,7 @@ module _ (memory : List ℕ) (s : State) (i : Instruction) where
   abbrev pub SetAfter : ℕ → Type 0
   SetAfter f = (isSet (s .control) f ≡ true) ⊎ (LaneRaises f × ((f < 3) ⊎ ¬ StopsEarly))
 
--- Of an instruction in a state, and what its step has left.
+-- R1.6, R7.2, R7.4, R7.5: of an instruction in a state, and what its step has left.
 pub record ControlAfter (memory : List ℕ) (s : State) (i : Instruction) (o : Stepped) : Type 0 where
   -- R7.2, R7.4: the flags, without embedded rounding
   pub flags : i .rounding ≡ Control → (f : ℕ) → f < 6 → (isSet (o .state .control) f ≡ true) ↔ SetAfter memory s i f

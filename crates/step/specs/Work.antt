@@ -17,8 +17,8 @@ use Rattle.machine.specs.declared.Located.the-variants as place
 use Rattle.machine.specs.declared.Environment.{Environment}
 use Rattle.machine.specs.State.{State, Stepped}
 use Rattle.machine.specs.Memory.{needsOutside}
-use Rattle.machine.specs.Lanes.{Sources, lanesOn, registerHalves, memoryHalves, gathered, elementAt, raises, recorded, added, raisesUnmasked}
-use Rattle.machine.specs.Lanes.{Fill, computed, copied, vectorsWith}
+use Rattle.machine.specs.Lanes.{Sources, lanesOn, registerHalves, memoryHalves, gathered, elementAt, raises, recorded, added}
+use Rattle.machine.specs.Lanes.{raisesUnmasked, Fill, computed, copied, vectorsWith}
 use Rattle.machine.specs.Step.{refused, stopped, completed}
 use Rattle.step.specs.declared.lanes.Results.{Results}
 
