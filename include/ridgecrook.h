@@ -171,12 +171,12 @@ typedef struct {
  *                         embedded rounding (R7.2, R7.5). *pointer has grown by the length, and
  *                         wraps at 2 to the 64 (R4.15). All else is as it was.
  *   RIDGECROOK_EXCEPTION  A lane that is on raised an exception whose mask bit is 0 (R7.3);
- *                         embedded rounding has all masked. Flags are set in *control, also those
- *                         of masked exceptions, and of every lane that is on (R7.4): if an IE, DE
- *                         or ZE that is raised has its mask bit 0, only these three, since nothing
- *                         is rounded then; else all that are raised. (The processors tried leave
- *                         PE out in one case, R7.6.) All else is as it was. Flags that *control
- *                         had before count for nothing.
+ *                         embedded rounding has all masked. Of the flags that lanes that are on
+ *                         raise, masked exceptions' too, these are set in *control (R7.4): where
+ *                         IE, DE or ZE is raised with its mask bit 0, only those of the three that
+ *                         are raised, in whatever lane, since nothing is rounded then; else all.
+ *                         (The processors tried leave PE out in one case, R7.6.) All else is as it
+ *                         was. Flags that *control had before count for nothing.
  *   every other number    All is as it was (R4.16).
  *
  * If there is cause for several answers, the first in this order is given (R4.3 to R4.14):

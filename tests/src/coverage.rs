@@ -2,9 +2,8 @@
 
 use crate::compare::Comparison;
 use crate::machine::{Step, StepOutcome, VECTORS_SIZE};
-use crate::second;
 use crate::second::encoding::{decode, Address, Base, Instruction, Second, Source, LIST};
-use crate::second::step::{first_address, is_on, lane_cases, unmasked, EARLY};
+use crate::second::step::{first_address, is_on, raised, unmasked, EARLY};
 
 /// A step with its outcome, and the instruction where its bytes make one.
 pub struct Seen<'a> {
@@ -168,8 +167,7 @@ const FEATURES: &[Feature] = &[
         "stop: early, late, late beside a masked early flag",
         3,
         |s| {
-            let stops = s.raised()? & unmasked(&s.before.machine, s.instruction?);
-            Some(match (stops & EARLY, s.raised()? & EARLY) {
+            Some(match (s.unmasked_raised()? & EARLY, s.raised()? & EARLY) {
                 (0, 0) => 1,
                 (0, _) => 2,
                 _ => 0,
@@ -386,15 +384,12 @@ impl Seen<'_> {
     /// On answer 8: all flags that lanes that are on raise, set or not.
     fn raised(&self) -> Option<u8> {
         let instruction = self.instruction.filter(|_| self.number() == 8)?;
-        let cases = lane_cases(self.before, instruction)?;
-        let flags = cases.iter().map(|case| second::answer(case).flags);
-        Some(flags.fold(0, |all, flags| all | flags))
+        raised(self.before, instruction)
     }
 
-    /// On answer 8: which of the flags that were added are unmasked.
+    /// On answer 8: which of them are unmasked.
     fn unmasked_raised(&self) -> Option<u8> {
-        let instruction = self.instruction.filter(|_| self.number() == 8)?;
-        Some(self.added_flags() & unmasked(&self.before.machine, instruction))
+        Some(self.raised()? & unmasked(&self.before.machine, self.instruction?))
     }
 }
 

@@ -6,7 +6,7 @@ use crate::case::{Case, OE, PE};
 use crate::machine::{Step, StepOutcome};
 use crate::second;
 use crate::second::encoding::decode;
-use crate::second::step::{lane_cases, unmasked, EARLY};
+use crate::second::step::{lane_cases, raised, unmasked, EARLY};
 
 #[derive(Clone, Copy, Debug, PartialEq, Eq)]
 pub enum Difference {
@@ -36,21 +36,19 @@ pub fn on_a_processor(step: &Step, by_rules: &StepOutcome) -> (StepOutcome, Opti
     (expected, differs.then_some(Difference::OverflowPrecision))
 }
 
-/// The flags that a processor adds where the answer is 8 by the late stage and OE is unmasked.
+/// The flags that a processor adds where no early stage stops it and OE is raised and unmasked.
 fn flags_with_overflow(step: &Step, by_rules: &StepOutcome) -> Option<u8> {
     if by_rules.answer.number != 8 {
         return None;
     }
     let instruction = decode(&step.code).expect("a step that is answered with 8 decodes");
-    let cases = lane_cases(step, &instruction).expect("and its memory is there");
-    let flags = or_ed(&cases, |case| second::answer(case).flags);
-    let stops = flags & unmasked(&step.machine, &instruction);
-    let late = stops & EARLY == 0 && stops & OE != 0;
-    late.then(|| or_ed(&cases, with_overflow_unmasked))
-}
-
-fn or_ed(cases: &[Case], flags: impl Fn(&Case) -> u8) -> u8 {
-    cases.iter().fold(0, |all, case| all | flags(case))
+    let stops = raised(step, &instruction)? & unmasked(&step.machine, &instruction);
+    if stops & EARLY != 0 || stops & OE == 0 {
+        return None;
+    }
+    let cases = lane_cases(step, &instruction)?;
+    let flags = cases.iter().map(with_overflow_unmasked);
+    Some(flags.fold(0, |all, flags| all | flags))
 }
 
 fn with_overflow_unmasked(case: &Case) -> u8 {

@@ -155,7 +155,7 @@ fn done_with(step: &Step, outcome: &StepOutcome, flag: u8) -> bool {
     outcome.answer.number == 0 && new & u32::from(flag) != 0
 }
 
-/// Sets flags of each lane that is on, as they are picked from the lane's own and those unmasked.
+/// Sets flags of each lane that is on, as they are picked by those unmasked from the lane's own.
 fn add_flags(step: &Step, outcome: &mut StepOutcome, pick: impl Fn(u8, u8) -> u8) {
     let instruction = instruction(step).expect("it was answered with 8");
     let unmasked = unmasked(&step.machine, &instruction);

@@ -41,7 +41,7 @@ pub enum Verdict {
 }
 
 /// Where the answer is 8, the library is also held against the second program, and the processor
-/// against the rules of the known differences; else the two are to be the same.
+/// against the rule of a known difference; else the two are to be the same.
 pub fn verdict(step: &Step, library: &StepOutcome, processor: &StepOutcome) -> Verdict {
     if library.answer.number != 8 {
         return agreement(library == processor);

@@ -75,8 +75,8 @@ fn every_mixture_under_every_mask() {
     watched.finish(128 * 64 * 4, &[0, 8]);
 }
 
-/// R7.4, from what the lanes are said to raise and without the second program: an unmasked IE, DE
-/// or ZE of any lane leaves OE, UE and PE of all lanes out, a masked one leaves nothing out.
+/// R7.4, of both programs, from what the lanes are said to raise: an unmasked IE, DE or ZE of any
+/// lane leaves OE, UE and PE of all lanes out, a masked one leaves nothing out.
 #[test]
 fn the_stage_that_stops_decides_over_the_flags() {
     let (mut left_out, mut masked_early) = (0, 0);

@@ -5,15 +5,16 @@ use mathlib.Core.Path.{_≡_, refl, sym, _∙_}
 use mathlib.Core.Logic.{_↔_, _≢_}
 use mathlib.Core.Bool.{Bool, true, false, not, _&&_, _||_, and-true, and-eq-true-iff, false≢true}
 use native.Mathlib.Decide.{decLt}
-use native.Mathlib.Nat.{zero-div, one-mul, div-eq-of-lt, lt-of-lt-of-le, mod-lt, mod-eq-of-lt}
+use native.Mathlib.Nat.{zero-div, one-mul, div-eq-of-lt, lt-of-lt-of-le, mod-lt}
 use native.Mathlib.Omega.{arith}
 use borrow.Author.Tests.{lt-ltb, le-ltb, eq-eqb, ne-eqb, eqb-false, not-true}
 use lib.Arith.{digits-div}
-use lib.Bits.{bitAnd, bitOr, bitXor, and-shr, and-mod, or-shr, or-mod, xor-shr, xor-mod, xor-add-and, and-mask, and-high}
+use lib.Bits.{bitAnd, bitOr, bitXor, and-shr, and-mod, or-shr, or-mod, xor-shr, xor-mod, and-mask, and-high}
 use lib.Dec.{eqb, ltb}
 use lib.Pow.{pow-pos, pow-mono, ones-lt, ones-split, high-ones, shr-shr}
 use Rattle.lists.proofs.Tables.{meets}
 use Rattle.evex.specs.Bits.{bits, isSet, inverted}
+use Rattle.evex.proofs.Shifts.{turned}
 
 -- ---- an operation that goes bit by bit, from what it does with 0 and 1
 
@@ -87,19 +88,21 @@ flipped-bit x n j h = xor-bit x (2 ^ n - 1) j ∙ rw (ones-bit n j, lt-ltb j n h
 
 -- ---- bits that are taken from a number
 
-pub shifted-bit : (x k j : ℕ) → isSet (x / 2 ^ k) j ≡ isSet x (k + j)
+shifted-bit : (x k j : ℕ) → isSet (x / 2 ^ k) j ≡ isSet x (k + j)
 shifted-bit x k j = rw (shr-shr x k j)
 
-pub low-bit : (x n j : ℕ) → j < n → isSet (x % 2 ^ n) j ≡ isSet x j
+low-bit : (x n j : ℕ) → j < n → isSet (x % 2 ^ n) j ≡ isSet x j
 low-bit x n j h = rw (← and-mask x n, and-bit x (2 ^ n - 1) j, ones-bit n j, lt-ltb j n h) (and-true (isSet x j))
 
 pub inverted-bit : (x at width j : ℕ) → j < width → isSet (inverted x at width) j ≡ not (isSet x (at + j))
 inverted-bit x at width j h =
     let m : ℕ = bits x at width in
-    let small : m < 2 ^ width = mod-lt (x / 2 ^ at) (pow-pos width) in
-    let e : inverted x at width ≡ bitXor m (2 ^ width - 1) =
-    omega (arith, xor-add-and m (2 ^ width - 1), and-mask m width, mod-eq-of-lt small) in
-    rw (e, flipped-bit m width j h, low-bit (x / 2 ^ at) width j h, shifted-bit x at j)
+    rw (
+      ← turned m width (mod-lt (x / 2 ^ at) (pow-pos width)),
+      flipped-bit m width j h,
+      low-bit (x / 2 ^ at) width j h,
+      shifted-bit x at j,
+    )
 
 -- ---- a bit that two numbers share
 

@@ -18,12 +18,12 @@ one-le w h = rw (one-shifted w h) (pow-pos w)
 pub masked : (n w : ℕ) → w < 8 → bitAnd n (1 * 2 ^ w % 256 - 1) ≡ n % 2 ^ w
 masked n w h = rw (one-shifted w h) (and-mask n w)
 
--- the same bits, inverted by an exclusive or
+-- w bits, inverted by an exclusive or
+pub turned : (x w : ℕ) → x < 2 ^ w → bitXor x (2 ^ w - 1) ≡ 2 ^ w - 1 - x
+turned x w h = omega (arith, xor-add-and x (2 ^ w - 1), and-mask x w, mod-eq-of-lt h)
+
 pub flipped : (x n w : ℕ) → w < 8 → x ≡ n % 2 ^ w → bitXor x (1 * 2 ^ w % 256 - 1) ≡ 2 ^ w - 1 - n % 2 ^ w
-flipped x n w h e =
-    let small : x < 2 ^ w = rw e (mod-lt n (pow-pos w)) in
-    rw (one-shifted w h, ← e)
-    (omega (arith, xor-add-and x (2 ^ w - 1), and-mask x w, mod-eq-of-lt small))
+flipped x n w h e = rw (one-shifted w h, ← e) (turned x w (rw e (mod-lt n (pow-pos w))))
 
 -- two numbers side by side
 pub beside : (high w low : ℕ) → high < 8 → w < 5 → low < 2 ^ w → bitOr (high * 2 ^ w % 256) low ≡ high * 2 ^ w + low

@@ -23,7 +23,7 @@ use Rattle.machine.specs.Memory.{needsOutside}
 use Rattle.machine.specs.Lanes.{recorded, raises, earlyFlags, added, gathered, laneOf, raised, raisesUnmasked, controlAfter}
 use Rattle.machine.specs.Step.{stopped, completed, step}
 use Rattle.machine.specs.TwoRuns.{IsDecoded, SwitchesOn}
-use Rattle.machine.specs.ControlWord.{LaneRaises, StopsEarly, SetAfter, ControlAfter, ControlWord}
+use Rattle.machine.specs.ControlWord.{LaneRaises, StopsEarly, SetAfter, WordAfter, ControlWord}
 use Rattle.machine.proofs.Ends.{step-decoded}
 use Rattle.machine.proofs.Flags.{added-below}
 use Rattle.machine.proofs.OffLanes.{off-lanes}
@@ -33,9 +33,9 @@ use Rattle.machine.proofs.OffLanes.{off-lanes}
 both-or : {A B C D : Type 0} → A ↔ B → C ↔ D → (A ⊎ C) ↔ (B ⊎ D)
 both-or h k = (⊎-map (h .0) (k .0), ⊎-map (h .1) (k .1))
 
-or-true : (a b : Bool) → ((a || b) ≡ true) ↔ ((a ≡ true) ⊎ (b ≡ true))
-or-true true b = ((λ _. inl refl), (λ _. refl))
-or-true false b = ((λ e. inr e), ⊎-elim (λ e. absurd (false≢true e)) (λ e. e))
+or-is-true : (a b : Bool) → ((a || b) ≡ true) ↔ ((a ≡ true) ⊎ (b ≡ true))
+or-is-true true b = ((λ _. inl refl), (λ _. refl))
+or-is-true false b = ((λ e. inr e), ⊎-elim (λ e. absurd (false≢true e)) (λ e. e))
 
 early-bit : (flags f : ℕ) → isSet (earlyFlags flags) f ≡ (isSet flags f && ltb f 3)
 early-bit flags f = and-bit flags 7 f ∙ rw (ones-bit 3 f)
@@ -138,10 +138,10 @@ module _ (memory : List ℕ) (s : State) (code : List ℕ) (i : Instruction) (d 
 
   set-after : (f : ℕ) → ((isSet (s .control) f || isSet (added Control (s .control) all) f) ≡ true) ↔ SetAfter memory s i f
   set-after f =
-      Iff·trans (or-true _ _)
+      Iff·trans (or-is-true _ _)
       (both-or Iff·rfl (Iff·trans (added-bit (s .control) all f) (Iff·and (raised-bit f) (both-or Iff·rfl (Iff·not stops-early)))))
 
-  word-after : ControlAfter memory s i (step memory s code)
+  word-after : WordAfter memory s i (step memory s code)
   unfolding raisesUnmasked completed
   word-after =
       record {
@@ -155,4 +155,4 @@ module _ (memory : List ℕ) (s : State) (code : List ℕ) (i : Instruction) (d 
       }
 
 pub control-word : ControlWord
-control-word memory s code i d there = word-after memory s code i d there
+control-word = word-after

@@ -126,5 +126,5 @@ pub all-added : (r : Rounding) (control flags : ℕ) → raises r control flags 
 all-added r control flags e = go (raises r control (earlyFlags flags)) refl
   where
     go : (t : Bool) → raises r control (earlyFlags flags) ≡ t → cond t (earlyFlags flags) flags ≡ flags
-    go true h = absurd (true≢false (sym (meets-part flags (unmasked r control) 7 h) ∙ e))
+    go true h = absurd (true≢false (sym (meets-part flags (unmasked r control) _ h) ∙ e))
     go false h = refl

@@ -1,4 +1,5 @@
--- docs/RULES.md, R7.2, R7.4 and R7.5: the control word after a step, bit by bit. The statement; its proof is in proofs/ControlWord.antt.
+-- docs/RULES.md, R1.6, R7.2, R7.4 and R7.5: the control word after a step, bit by bit. The statement; its proof is in
+-- proofs/ControlWord.antt. When the answer is 8 is in OffLanes.antt (`Raises`).
 use Prim.Native.Nat.{ℕ, _+_, _<_, _≤_}
 use mathlib.Core.Path.{_≡_}
 use mathlib.Core.Logic.{_↔_, _≢_, _⊎_}
@@ -13,6 +14,8 @@ use Rattle.machine.specs.Lanes.{gathered, laneOf}
 use Rattle.machine.specs.Step.{step}
 use Rattle.machine.specs.TwoRuns.{IsDecoded, SwitchesOn}
 
+-- ---- for an instruction without embedded rounding
+
 -- R1.5: the exception whose flag is bit f is unmasked: its mask bit is 0
 abbrev pub IsUnmasked : State → ℕ → Type 0
 IsUnmasked s f = isSet (s .control) (7 + f) ≡ false
@@ -26,12 +29,14 @@ module _ (memory : List ℕ) (s : State) (i : Instruction) where
   abbrev pub StopsEarly : Type 0
   StopsEarly = (f : ℕ) × (f < 3) × IsUnmasked s f × LaneRaises f
 
-  -- R7.2, R7.4: bit f was set before; or a lane that is on raises it, and it is one of these three or nothing stopped early
+  -- R7.2, R7.4: bit f was set before; or a lane that is on raises it, and it is one of these three or that is not so
   abbrev pub SetAfter : ℕ → Type 0
   SetAfter f = (isSet (s .control) f ≡ true) ⊎ (LaneRaises f × ((f < 3) ⊎ ¬ StopsEarly))
 
--- R1.6, R7.2, R7.4, R7.5: of an instruction in a state, and what its step has left.
-pub record ControlAfter (memory : List ℕ) (s : State) (i : Instruction) (o : Stepped) : Type 0 where
+-- ---- R1.6, R7.2, R7.4, R7.5: for any
+
+-- of an instruction in a state, and what its step has left
+pub record WordAfter (memory : List ℕ) (s : State) (i : Instruction) (o : Stepped) : Type 0 where
   -- R7.2, R7.4: the flags, without embedded rounding
   pub flags : i .rounding ≡ Control → (f : ℕ) → f < 6 → (isSet (o .state .control) f ≡ true) ↔ SetAfter memory s i f
   -- R1.6, R7.2: the bits that are no flags
@@ -39,8 +44,8 @@ pub record ControlAfter (memory : List ℕ) (s : State) (i : Instruction) (o : S
   -- R7.5: with embedded rounding nothing is unmasked, and nothing set
   pub embedded : (mode : Mode) → i .rounding ≡ Embedded mode → (o .answer .number ≢ 8) × (o .state .control ≡ s .control)
 
--- R7.2, R7.4, R7.5: of every instruction that is decoded (R11.5) and whose memory is there.
+-- Of every instruction that is decoded (R11.5) and whose memory is there.
 abbrev pub ControlWord : Type 0
 ControlWord =
     (memory : List ℕ) (s : State) (code : List ℕ) (i : Instruction)
-    → IsDecoded s code i → step memory s code .answer .number ≢ 7 → ControlAfter memory s i (step memory s code)
+    → IsDecoded s code i → step memory s code .answer .number ≢ 7 → WordAfter memory s i (step memory s code)

@@ -23,7 +23,7 @@ bytesOf over = 0x62 ∷ 0xF5 ∷ 0x74 ∷ 0x49 ∷ 0x5E ∷ 0xC2 ∷ []
 bytesOf root = 0x62 ∷ 0xF5 ∷ 0x7C ∷ 0x49 ∷ 0x51 ∷ 0xC1 ∷ []
 bytesOf fused = 0x62 ∷ 0xF6 ∷ 0x75 ∷ 0x49 ∷ 0xB8 ∷ 0xC2 ∷ []
 
--- ---- R12.1, the state
+-- ---- R12.1, R12.4: the state
 
 -- halves as bytes, the low one first
 abbrev bytesOfHalves : List ℕ → List ℕ
@@ -93,7 +93,7 @@ stagesStart control = stateWith [] (0x3C00 ∷ 0x3C00 ∷ []) (0x0000 ∷ 0x4200
 abbrev pub stages : List (ℕ × ℕ)
 stages = (0x1D80, 0x1D84) ∷ (0x0F80, 0x0FA4) ∷ (0x0D80, 0x0D84) ∷ []
 
--- Each stops with 8, and leaves all else.
+-- Each stops with 8, and nothing changes but the control word.
 abbrev pub TwoStages : Type 0
 TwoStages =
     map (λ c. step [] (stagesStart (c .0)) (bytesOf over)) stages

@@ -6,7 +6,7 @@ use Rattle.machine.specs.TwoRuns.{TwoRuns}
 use Rattle.machine.specs.Bytes.{DecodedBytes}
 use Rattle.machine.specs.Rows.{StarredRows, TwoStages}
 
--- R4.12, R4.17 to R4.19, R5.2, R7.4, R11.7, R12.1, R12.2, R12.4
+-- R4.12, R4.17 to R4.19, R5.2, R7.2, R7.4, R7.5, R11.7, R12.1, R12.2, R12.4
 pub record Theorems : Type 1 where
   -- R4.2, R4.15 to R4.17: which answer is given, and what it leaves
   pub answers : Answers

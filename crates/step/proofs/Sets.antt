@@ -1,4 +1,4 @@
--- Sets of lanes as bits: what `&`, `^` and 2 ^ n - 1 say of each lane.
+-- The sets of lanes that the code makes, those that are on and those that are kept, as bits.
 -- Assumes nothing.
 use Prim.Native.Nat.{ℕ, _-_, _^_, _≤_}
 use mathlib.Core.Path.{_≡_, refl, sym, _∙_}
@@ -15,8 +15,6 @@ use Rattle.evex.specs.declared.Instruction.{Instruction}
 use Rattle.evex.proofs.Bitwise.{differs, and-bit, xor-bit, ones-bit, no-bit}
 use Rattle.machine.specs.Memory.{isOn}
 use Rattle.step.specs.Work.{keptBy}
-
--- ---- the sets of the code
 
 same-sets : {f g : ℕ → Bool} → ((j : ℕ) → f j ≡ g j) → f ≡ g
 same-sets h = λ i j. h j i

@@ -79,6 +79,7 @@ impl Control {
     {
         flags & self.unmasked(rounding) != 0
     }
+
     // R7.4: where one of IE, DE and ZE, the three lowest, is of an exception that is not masked, these alone; else all.
     pub(crate) fn added(self, rounding: Rounding, flags: u8) -> u8
         ensures { λ r. ⌜ r ≡ added rounding (self .bits) flags ⌝ }

@@ -70,6 +70,7 @@ fn finish(
     let halves = results.halves;
     let kept = lanes_kept(on, i);
     store(vectors, i.destination, kept, halves);
+    // R7.4: where nothing stops it no flag is left out.
     let flagged = word.recorded(rounding, results.flags);
     *control = flagged.bits;
     *pointer = next;

@@ -164,6 +164,13 @@ pub fn lane_cases(before: &Step, instruction: &Instruction) -> Option<Vec<Case>>
     Some(lanes.into_iter().flatten().map(case).collect())
 }
 
+/// R7.1: the flags of all lanes that are on, set or not; for the same tests.
+pub fn raised(before: &Step, instruction: &Instruction) -> Option<u8> {
+    let cases = lane_cases(before, instruction)?;
+    let flags = cases.iter().map(|case| super::answer(case).flags);
+    Some(flags.fold(0, |all, flags| all | flags))
+}
+
 /// R7.5, R1.5: the instruction's own mode, or the control word's.
 fn mode(machine: &Machine, instruction: &Instruction) -> u32 {
     let of_control = machine.control >> 13 & 3;
