@@ -29,7 +29,7 @@ module _ (memory : List ℕ) (s : State) (i : Instruction) where
   abbrev pub StopsEarly : Type 0
   StopsEarly = (f : ℕ) × (f < 3) × IsUnmasked s f × LaneRaises f
 
-  -- R7.2, R7.4: bit f was set before; or a lane that is on raises it, and it is one of these three or that is not so
+  -- R7.2, R7.4: bit f was set before; or a lane that is on raises it, and it is one of those three or `StopsEarly` does not hold
   abbrev pub SetAfter : ℕ → Type 0
   SetAfter f = (isSet (s .control) f ≡ true) ⊎ (LaneRaises f × ((f < 3) ⊎ ¬ StopsEarly))
 

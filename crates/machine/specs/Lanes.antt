@@ -43,6 +43,8 @@ abbrev pub environmentOf : Instruction → ℕ → Environment
 environmentOf i control =
     record { mode = roundingMode (i .rounding) control; underflow = isSet (unmasked (i .rounding) control) 4 }
 
+-- ---- R7.2 to R7.5: flags, and the control word that they are set in
+
 -- R7.2: the control word with flags set in it, and all its other bits kept (R1.6)
 abbrev pub recorded : Rounding → ℕ → ℕ → ℕ
 recorded Control control flags = bitOr control flags
