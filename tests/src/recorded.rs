@@ -18,8 +18,8 @@ pub fn path() -> PathBuf {
     PathBuf::from(concat!(env!("CARGO_MANIFEST_DIR"), "/data/processor.txt"))
 }
 
-/// The examples marked * (R12.1, R12.4) as steps, some like the other examples, and cases around
-/// R7.4 and R7.6.
+/// The examples of R12.1 as steps, the first of R12.4, some like the other examples, and cases
+/// around R7.4 and R7.6.
 const ROWS: [&str; 30] = [
     "step code=62F5744958C2 control=00001F80 k1=1 z1=3C00 z2=BC00",
     "step code=62F5744958C2 control=00003F80 k1=1 z1=3C00 z2=BC00",

@@ -130,7 +130,7 @@ meets-bit x y = (
       rw (ne-eqb (bitAnd x y) 0 none)),
 )
 
--- some of them is enough
+-- what meets a part of the bits of x meets x
 pub meets-part : (x y m : ℕ) → meets y (bitAnd x m) ≡ true → meets y x ≡ true
 meets-part x y m e =
     let r : (j : ℕ) × (isSet (bitAnd x m) j ≡ true) × (isSet y j ≡ true) = meets-bit (bitAnd x m) y .0 e in

@@ -9,6 +9,11 @@ module _ {A : Type 0} where
   either P true p q = p
   either P false p q = q
 
+  -- each where it is picked
+  pub either-given : (P : A → Type 0) (t : Bool) {x y : A} → (t ≡ true → P x) → (t ≡ false → P y) → P (cond t x y)
+  either-given P true p q = p refl
+  either-given P false p q = q refl
+
   -- two picks by one test are related where what is picked is
   pub either-related : (R : A → A → Type 0) (t : Bool) {a b c d : A} → R a b → R c d → R (cond t a c) (cond t b d)
   either-related R true h k = h

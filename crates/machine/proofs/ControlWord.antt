@@ -4,15 +4,15 @@
 use Prim.Native.Nat.{ℕ, _+_, _<_, _≤_, _^_}
 use mathlib.Core.Path.{_≡_, refl, sym, ap, _∙_}
 use mathlib.Core.Logic.{_↔_, _≢_, _⊎_, inl, inr, ⊎-elim, ⊎-map, Iff·rfl, Iff·trans, Iff·not, Iff·and}
-use mathlib.Core.Bool.{Bool, true, false, cond, not, _&&_, _||_, and-eq-true-iff, or-false, false≢true}
+use mathlib.Core.Bool.{Bool, true, false, cond, not, _||_, and-eq-true-iff, or-false, true≢false, false≢true}
 use mathlib.Core.List.{List}
 use native.Mathlib.Omega.{arith}
 use borrow.Author.Tests.{lt-ltb, ltb-true, not-true}
 use lib.Bits.{bitAnd, and-zero-r}
-use lib.Dec.{eqb, ltb}
+use lib.Dec.{eqb}
 use lib.ListN.{length}
 use Rattle.half.specs.declared.Mode.{Mode}
-use Rattle.lists.proofs.Tests.{either}
+use Rattle.lists.proofs.Tests.{either, either-given}
 use Rattle.evex.specs.Bits.{isSet}
 use Rattle.evex.specs.declared.Rounding.{Rounding}
 use Rattle.evex.specs.declared.Rounding.the-variants.{Control, Embedded}
@@ -37,47 +37,27 @@ or-is-true : (a b : Bool) → ((a || b) ≡ true) ↔ ((a ≡ true) ⊎ (b ≡ t
 or-is-true true b = ((λ _. inl refl), (λ _. refl))
 or-is-true false b = ((λ e. inr e), ⊎-elim (λ e. absurd (false≢true e)) (λ e. e))
 
-early-bit : (flags f : ℕ) → isSet (earlyFlags flags) f ≡ (isSet flags f && ltb f 3)
-early-bit flags f = and-bit flags 7 f ∙ rw (ones-bit 3 f)
+early-is : (flags f : ℕ) → (isSet (earlyFlags flags) f ≡ true) ↔ ((isSet flags f ≡ true) × (f < 3))
+early-is flags f =
+    rw (and-bit flags 7 f, ones-bit 3 f)
+    ((λ e. let b = and-eq-true-iff _ _ .0 e in (b .0, ltb-true f 3 (b .1))), (λ h. rw (h .0, lt-ltb f 3 (h .1))))
 
-unmasked-bit : (control f : ℕ) → f < 6 → isSet (unmaskedFlags control) f ≡ not (isSet control (7 + f))
-unmasked-bit control f h = inverted-bit control 7 6 f h
+unmasked-is : (control f : ℕ) → f < 6 → (isSet (unmaskedFlags control) f ≡ true) ↔ (isSet control (7 + f) ≡ false)
+unmasked-is control f h = rw (inverted-bit control 7 6 f h) (not-true _, (λ e. rw e))
 
-module _ (control flags : ℕ) where
-  -- an early flag is raised whose exception is unmasked
-  abbrev Early : Type 0
-  Early = (f : ℕ) × (f < 3) × (isSet control (7 + f) ≡ false) × (isSet flags f ≡ true)
-
-  found : raises Control control (earlyFlags flags) ≡ true → Early
-  found e =
-      let r : (f : ℕ) × (isSet (earlyFlags flags) f ≡ true) × (isSet (unmaskedFlags control) f ≡ true) =
-      meets-bit (earlyFlags flags) (unmaskedFlags control) .0 e in
-      let f : ℕ = r .0 in
-      let b : (isSet flags f ≡ true) × (ltb f 3 ≡ true) = and-eq-true-iff _ _ .0 (sym (early-bit flags f) ∙ r .1) in
-      let h : f < 3 = ltb-true f 3 (b .1) in
-      (f, h, not-true _ (sym (unmasked-bit control f (omega arith)) ∙ r .2), b .0)
-
-  finds : Early → raises Control control (earlyFlags flags) ≡ true
-  finds r =
-      let f : ℕ = r .0 in
-      let e : isSet (earlyFlags flags) f ≡ true = early-bit flags f ∙ rw (r .3, lt-ltb f 3 (r .1)) in
-      let u : isSet (unmaskedFlags control) f ≡ true = unmasked-bit control f (omega (arith, r .1)) ∙ rw (r .2) in
-      meets-bit (earlyFlags flags) (unmaskedFlags control) .1 (f, e, u)
-
-  -- what is added
-  added-bit : (f : ℕ)
-      → (isSet (added Control control flags) f ≡ true)
-      ↔ ((isSet flags f ≡ true) × ((f < 3) ⊎ ¬ (raises Control control (earlyFlags flags) ≡ true)))
-  added-bit f = go (raises Control control (earlyFlags flags))
-    where
-      go : (t : Bool) → (isSet (cond t (earlyFlags flags) flags) f ≡ true) ↔ ((isSet flags f ≡ true) × ((f < 3) ⊎ ¬ (t ≡ true)))
-      go true = (
-        (λ h.
-            let b : (isSet flags f ≡ true) × (ltb f 3 ≡ true) = and-eq-true-iff _ _ .0 (sym (early-bit flags f) ∙ h) in
-            (b .0, inl (ltb-true f 3 (b .1)))),
-        (λ h. early-bit flags f ∙ rw (h .0, lt-ltb f 3 (⊎-elim (λ l. l) (λ n. absurd (n refl)) (h .1)))),
-      )
-      go false = ((λ h. (h, inr false≢true)), (λ h. h .0))
+-- what is added of the flags that are raised
+added-bit : (control flags f : ℕ)
+    → (isSet (added Control control flags) f ≡ true)
+    ↔ ((isSet flags f ≡ true) × ((f < 3) ⊎ ¬ (raises Control control (earlyFlags flags) ≡ true)))
+added-bit control flags f =
+    either-given
+    (λ n. (isSet n f ≡ true) ↔ ((isSet flags f ≡ true) × ((f < 3) ⊎ ¬ (raises Control control (earlyFlags flags) ≡ true))))
+    (raises Control control (earlyFlags flags))
+    (λ e. (
+      (λ h. let b = early-is flags f .0 h in (b .0, inl (b .1))),
+      (λ h. early-is flags f .1 (h .0, ⊎-elim (λ l. l) (λ n. absurd (n e)) (h .1))),
+    ))
+    (λ e. ((λ h. (h, inr (λ t. true≢false (sym t ∙ e)))), (λ h. h .0)))
 
 -- what is recorded of them, by the rounding
 recorded-bit : (r : Rounding) (control flags f : ℕ) → r ≡ Control
@@ -97,6 +77,7 @@ recorded-above (Embedded mode) control flags n h l = refl
 
 module _ (memory : List ℕ) (s : State) (code : List ℕ) (i : Instruction) (d : IsDecoded s code i)
     (there : step memory s code .answer .number ≢ 7) where
+  -- the flags of all lanes that are on
   abbrev all : ℕ
   all = raised s i (gathered memory s i)
 
@@ -132,8 +113,16 @@ module _ (memory : List ℕ) (s : State) (code : List ℕ) (i : Instruction) (d 
 
   stops-early : (raises Control (s .control) (earlyFlags all) ≡ true) ↔ StopsEarly memory s i
   stops-early = (
-    (λ e. let r : Early (s .control) all = found (s .control) all e in (r .0, r .1, r .2, raised-bit (r .0) .0 (r .3))),
-    (λ r. finds (s .control) all (r .0, r .1, r .2, raised-bit (r .0) .1 (r .3))),
+    (λ e.
+        let r = meets-bit (earlyFlags all) (unmaskedFlags (s .control)) .0 e in
+        let b = early-is all (r .0) .0 (r .1) in
+        (r .0, b .1, unmasked-is (s .control) (r .0) (omega (arith, b .1)) .0 (r .2), raised-bit (r .0) .0 (b .0))),
+    (λ r.
+        meets-bit (earlyFlags all) (unmaskedFlags (s .control)) .1 (
+          r .0,
+          early-is all (r .0) .1 (raised-bit (r .0) .1 (r .3), r .1),
+          unmasked-is (s .control) (r .0) (omega (arith, r .1)) .1 (r .2),
+        )),
   )
 
   set-after : (f : ℕ) → ((isSet (s .control) f || isSet (added Control (s .control) all) f) ≡ true) ↔ SetAfter memory s i f

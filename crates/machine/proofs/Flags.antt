@@ -11,7 +11,7 @@ use Rattle.half.specs.Format.{isNan, isSignalling, isSubnormal}
 use Rattle.half.specs.Exact.{Magnitude}
 use Rattle.half.specs.Round.{IE, DE, ZE, UE, PE, flag, result, tiny, inexact, overflows, roundedHalf}
 use Rattle.lists.specs.Lists.{some}
-use Rattle.lists.proofs.Tests.{either}
+use Rattle.lists.proofs.Tests.{either, either-given}
 use Rattle.lists.proofs.Tables.{or-table-below}
 use Rattle.half.specs.Operations.{invalid, exactly, nanResult, exactSum, withDenormals, unlessNan, halfAdd, halfSubtract, halfMultiply}
 use Rattle.half.specs.Operations.{halfDivide, halfRoot, halfMultiplyAdd}
@@ -123,8 +123,7 @@ added-below s i g =
 -- ---- where nothing stops the instruction, nothing is left out
 
 pub all-added : (r : Rounding) (control flags : ℕ) → raises r control flags ≡ false → added r control flags ≡ flags
-all-added r control flags e = go (raises r control (earlyFlags flags)) refl
-  where
-    go : (t : Bool) → raises r control (earlyFlags flags) ≡ t → cond t (earlyFlags flags) flags ≡ flags
-    go true h = absurd (true≢false (sym (meets-part flags (unmasked r control) _ h) ∙ e))
-    go false h = refl
+all-added r control flags e =
+    either-given (λ n. n ≡ flags) (raises r control (earlyFlags flags))
+    (λ h. absurd (true≢false (sym (meets-part flags (unmasked r control) _ h) ∙ e)))
+    (λ _. refl)
