@@ -77,7 +77,7 @@ recorded-above (Embedded mode) control flags n h l = refl
 
 module _ (memory : List ℕ) (s : State) (code : List ℕ) (i : Instruction) (d : IsDecoded s code i)
     (there : step memory s code .answer .number ≢ 7) where
-  -- the flags of all lanes that are on
+  -- all flags that it raises
   abbrev all : ℕ
   all = raised s i (gathered memory s i)
 

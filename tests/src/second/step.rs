@@ -164,7 +164,7 @@ pub fn lane_cases(before: &Step, instruction: &Instruction) -> Option<Vec<Case>>
     Some(lanes.into_iter().flatten().map(case).collect())
 }
 
-/// R7.1: the flags of all lanes that are on, set or not; for the same tests.
+/// R7.1: every flag that a lane raises that is on, set or not; for the same tests.
 pub fn raised(before: &Step, instruction: &Instruction) -> Option<u8> {
     let cases = lane_cases(before, instruction)?;
     let flags = cases.iter().map(|case| super::answer(case).flags);
