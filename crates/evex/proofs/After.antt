@@ -44,30 +44,38 @@ passed (c ∷ cs) d {i} e = go (c .0) refl (λ f. passed cs d f) e
     go true f later g = absurd (subst IsFields (sym g) tt)
     go false f later g = let l : NoneHolds cs × (d ≡ Fields i) = later g in ((f, l .0), l .1)
 
--- a row, with all bytes there
+-- a row, no reserved form of it, and all bytes there
 pub record Whole (code : List ℕ) (i : Instruction) : Type 0 where
   pub row : Row
   pub found : listed (headOf code) ≡ Found row
-  pub bytes : i .size ≡ size (headOf code) row
+  pub is : i ≡ instruction (headOf code) row code
+  pub plain : NoneHolds (map (λ t. (t, Reserved)) (reservedForms (headOf code) row))
   pub there : size (headOf code) row ≤ length code
 
-complete : (code : List ℕ) (row : Row) → listed (headOf code) ≡ Found row → NoneHolds (refusals code) → size (headOf code) row ≤ length code
+pub whole-size : {code : List ℕ} {i : Instruction} (w : Whole code i) → i .size ≡ size (headOf code) (w .row)
+unfolding instruction
+whole-size w = ap (λ (i : Instruction). i .size) (w .is)
+
+by-row : (code : List ℕ) (row : Row) → listed (headOf code) ≡ Found row → NoneHolds (refusals code)
+    → NoneHolds (map (λ t. (t, Reserved)) (reservedForms (headOf code) row)) × (size (headOf code) row ≤ length code)
 unfolding refusals rowConditions bytesMissing
-complete code row found h =
+by-row code row found h =
     let ofRow = none-append (headConditions code) (rowConditions (headOf code) code row) (rw found at h) .1 in
-    ltb-false (length code) (size (headOf code) row)
-    (none-append (map (λ t. (t, Reserved)) (reservedForms (headOf code) row)) (_ ∷ []) ofRow .1 .0)
+    let parts = none-append (map (λ t. (t, Reserved)) (reservedForms (headOf code) row)) (_ ∷ []) ofRow in
+    (parts .0, ltb-false (length code) (size (headOf code) row) (parts .1 .0))
 
 pub whole : (code : List ℕ) {i : Instruction} → decoded code ≡ Fields i → Whole code i
-unfolding decoded instruction
+unfolding decoded
 whole code {i} e = go (listed (headOf code)) refl (passed (refusals code) _ e)
   where
-    sizeOf : Decoded → ℕ
-    sizeOf (Fields i) = i .size
-    sizeOf (Refused r) = 0
+    fieldsOr : Decoded → Instruction
+    fieldsOr (Fields j) = j
+    fieldsOr (Refused r) = i
 
     go : (l : Listed) → listed (headOf code) ≡ l → NoneHolds (refusals code) × (fields (headOf code) code l ≡ Fields i) → Whole code i
-    go (Found row) f p = record { row = row; found = f; bytes = ap sizeOf (sym (p .1)); there = complete code row f (p .0) }
+    go (Found row) f p =
+        let checked = by-row code row f (p .0) in
+        record { row = row; found = f; is = ap fieldsOr (sym (p .1)); plain = checked .0; there = checked .1 }
     go Nothing f p = absurd (subst IsFields (sym (p .1)) tt)
 
 -- ---- two codes with the same first bytes
@@ -182,7 +190,7 @@ after code rest e =
       there-other = omega (arith, length-append (take n code) rest);
       bytes = λ k l. List·getD-append (take n code) rest 0 k (omega arith) ∙ getD-take n code k 0 l;
     } in
-    ap (λ (k : ℕ). decoded (take k code ++ rest)) (w .bytes) ∙ same-listed same (w .row) (le-refl n) (w .found) ∙ e
+    ap (λ (k : ℕ). decoded (take k code ++ rest)) (whole-size w) ∙ same-listed same (w .row) (le-refl n) (w .found) ∙ e
 
 pub by-longest : (code : List ℕ) (n : ℕ) → longest ≤ n → decoded (take n code) ≡ decoded code
 by-longest code n room = go (leb (length code) n) refl

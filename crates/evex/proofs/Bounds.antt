@@ -1,7 +1,7 @@
 -- The ranges of a decoded instruction's fields, for whoever uses them as indices: each is a few bits, so they hold of any bytes.
 -- Assumes nothing.
 use mathlib.Core.Path.{_≡_, subst}
-use mathlib.Core.Bool.{Bool, not, _&&_, _||_}
+use mathlib.Core.Bool.{Bool, true, not, _&&_, _||_}
 use mathlib.Core.List.{List, [], _∷_, map}
 use Prim.Native.Nat.{ℕ, _≤_, _<_}
 use native.Mathlib.Omega.{arith}
@@ -52,6 +52,7 @@ OperandIn (operand.Memory address broadcast) = BaseIn (address .base) × IndexIn
 
 pub record Bounds (i : Instruction) : Type 0 where
   pub elements : i .elements ≤ 32
+  pub one : i .shape .scalar ≡ true → i .elements ≡ 1
   pub mask : i .mask < 8
   pub destination : i .destination < 32
   pub first : SourceIn (i .first)
@@ -97,7 +98,11 @@ module _ (h : Head) (row : Row) where
 
   elements-in : elements h row ≤ 32
   unfolding elements
-  elements-in = lanes-in h
+  elements-in = either (λ n. n ≤ 32) (shape row .scalar) (lit≤ tt) (lanes-in h)
+
+  one-in : shape row .scalar ≡ true → elements h row ≡ 1
+  unfolding elements
+  one-in e = rw e
 
   pub size-most : size h row ≤ longest
   unfolding size displacementAt displacementSize
@@ -114,6 +119,7 @@ module _ (h : Head) (row : Row) where
   instruction-in code =
       record {
         elements = elements-in;
+        one = one-in;
         mask = omega arith;
         destination = destination-in h;
         first = first-in;

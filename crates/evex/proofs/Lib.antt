@@ -7,3 +7,4 @@ pub mod Answer
 pub mod Bounds
 pub mod After
 pub mod Sizes
+pub mod Scalar

@@ -7,7 +7,7 @@ use lib.ListN.{length}
 use Rattle.lists.specs.Lists.{firstOf}
 use Rattle.evex.specs.Bits.{isSet, byte}
 use Rattle.evex.specs.List.{shape}
-use Rattle.evex.specs.Fields.{headOf, listed, lengthBits, registerB, z, aaa, firstSource, size, instruction}
+use Rattle.evex.specs.Fields.{headOf, listed, lengthBits, b, registerForm, registerB, z, aaa, firstSource, size, instruction}
 use Rattle.evex.specs.declared.head.Head.{Head}
 use Rattle.evex.specs.declared.list.Row.{Row}
 use Rattle.evex.specs.declared.list.Listed.{Listed}
@@ -58,12 +58,17 @@ zeroingWithoutMask h = z h && eqb (aaa h) 0
 unfoldable pub extraSource : Head → Row → Bool
 extraSource h row = not (shape row .first) && not (eqb (firstSource h) 0)
 
+-- R4.10: b in memory form, where the row has one element.
+unfoldable pub scalarBroadcast : Head → Row → Bool
+scalarBroadcast h row = shape row .scalar && (b h && not (registerForm h))
+
 -- R4.10: the reserved forms, a line for each.
 unfoldable pub reservedForms : Head → Row → List Bool
 reservedForms h row =
     reservedLength h
     ∷ zeroingWithoutMask h
     ∷ extraSource h row
+    ∷ scalarBroadcast h row
     ∷ []
 
 -- R4.11: there are fewer bytes than the instruction has. Where the SIB byte is missing the length counts it all the same.

@@ -170,9 +170,9 @@ module _ (h : Head) (row : Row) where
   unfoldable pub first : Source
   first = cond (shape row .first) (source.Register (firstSource h)) source.None
 
-  -- R3.7: the elements that the operation works on, one in each lane of a vector.
+  -- R3.7: the elements that the operation works on: one, or as many as a vector has lanes.
   unfoldable pub elements : ℕ
-  elements = vectorLanes h
+  elements = cond (shape row .scalar) 1 (vectorLanes h)
 
   -- R3.8: whose mode counts.
   unfoldable pub rounding : Rounding

@@ -1,7 +1,8 @@
 -- What a reader opens, in this order: List is the instructions' table, Fields the fields, Decode the refusals and the whole. Sizes
--- has theorems about them.
+-- and Scalar have theorems about them.
 pub mod Bits
 pub mod List
 pub mod Fields
 pub mod Decode
 pub mod Sizes
+pub mod Scalar

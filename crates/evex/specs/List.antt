@@ -14,15 +14,23 @@ use Rattle.evex.specs.declared.list.Listed.the-variants.{Found, Nothing}
 
 -- two sources
 abbrev pub packed : Shape
-packed = record { first = true; accumulates = false }
+packed = record { scalar = false; first = true; accumulates = false }
 
 -- the second source alone
 abbrev pub root : Shape
-root = record { first = false; accumulates = false }
+root = record { scalar = false; first = false; accumulates = false }
 
 -- two sources and the destination
 abbrev pub fused : Shape
-fused = record { first = true; accumulates = true }
+fused = record { scalar = false; first = true; accumulates = true }
+
+-- one element; the root has a first source too
+abbrev pub scalar : Shape
+scalar = record { scalar = true; first = true; accumulates = false }
+
+-- one element, of two sources and the destination
+abbrev pub fusedScalar : Shape
+fusedScalar = record { scalar = true; first = true; accumulates = true }
 
 -- ---- R2.1: the table
 
@@ -32,6 +40,9 @@ none = 0
 
 abbrev p66 : ℕ
 p66 = 1
+
+abbrev pF3 : ℕ
+pF3 = 2
 
 -- prefix, map, W, opcode; operation; shape
 unfoldable pub rows : List Row
@@ -44,6 +55,14 @@ rows =
     ∷ (p66, 6, 0, 0x98, Fused132, fused)
     ∷ (p66, 6, 0, 0xA8, Fused213, fused)
     ∷ (p66, 6, 0, 0xB8, Fused231, fused)
+    ∷ (pF3, 5, 0, 0x58, Add, scalar)
+    ∷ (pF3, 5, 0, 0x59, Multiply, scalar)
+    ∷ (pF3, 5, 0, 0x5C, Subtract, scalar)
+    ∷ (pF3, 5, 0, 0x5E, Divide, scalar)
+    ∷ (pF3, 5, 0, 0x51, SquareRoot, scalar)
+    ∷ (p66, 6, 0, 0x99, Fused132, fusedScalar)
+    ∷ (p66, 6, 0, 0xA9, Fused213, fusedScalar)
+    ∷ (p66, 6, 0, 0xB9, Fused231, fusedScalar)
     ∷ []
 
 -- ---- the columns by name
@@ -56,7 +75,7 @@ isFor r prefix map w opcode = eqb (r .0) prefix && eqb (r .1) map && eqb (r .2) 
 abbrev pub operation : Row → Operation
 operation r = r .4
 
--- R2.2: its operands.
+-- R2.2: what its operands are.
 abbrev pub shape : Row → Shape
 shape r = r .5
 

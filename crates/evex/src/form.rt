@@ -3,7 +3,7 @@ ghost use mathlib.Core.Path.{_≡_};
 ghost use Prim.Native.Nat.{_≤_};
 ghost use Rattle.lists.specs.Lists.{some};
 ghost use Rattle.evex.specs.Fields.{first, elements, rounding, size, N, displacementOf, instruction};
-ghost use Rattle.evex.specs.Decode.{extraSource, reservedForms};
+ghost use Rattle.evex.specs.Decode.{extraSource, scalarBroadcast, reservedForms};
 use super::Instruction;
 use super::Rounding;
 use super::Source;
@@ -27,10 +27,14 @@ fn first(head: Head, row: Row) -> Source
     Source::None
 }
 
-// How many (R3.7): one in each lane of a vector.
+// How many (R3.7): one, or one in each lane of a vector.
 fn elements(head: Head, row: Row) -> u8
     ensures { λ r. ⌜ (r ≡ elements head row) × (r ≤ 32) ⌝ }
 {
+    let shape = row.shape();
+    if shape.scalar {
+        return 1;
+    }
     head.vector_lanes()
 }
 
@@ -107,9 +111,18 @@ fn has_extra_source(head: Head, row: Row) -> bool
     !shape.first & (head.first_source() != 0)
 }
 
+// R4.10: b in memory form, where there is one element.
+fn has_scalar_broadcast(head: Head, row: Row) -> bool
+    ensures { λ r. ⌜ r ≡ scalarBroadcast head row ⌝ }
+{
+    let shape = row.shape();
+    shape.scalar & (head.has_b() & !head.is_register_form())
+}
+
 // R4.10: one of the reserved forms.
 pub(crate) fn is_reserved(head: Head, row: Row) -> bool
     ensures { λ r. ⌜ r ≡ some (λ reserved. reserved) (reservedForms head row) ⌝ }
 {
-    head.has_reserved_length() | (head.zeroes_without_mask() | has_extra_source(head, row))
+    head.has_reserved_length()
+        | (head.zeroes_without_mask() | (has_extra_source(head, row) | has_scalar_broadcast(head, row)))
 }

@@ -90,7 +90,7 @@ impl Head {
     }
 
     // R3.5: mod 3.
-    fn is_register_form(self) -> bool
+    pub(crate) fn is_register_form(self) -> bool
         ensures { λ r. ⌜ r ≡ registerForm self ⌝ }
     {
         bits(self.modrm, 6, 2) == 3

@@ -17,21 +17,37 @@ pub enum Listed {
 
 // R2.2: two sources; the second alone; two and the destination.
 const PACKED: Shape = Shape {
+    scalar: false,
     first: true,
     accumulates: false,
 };
 
 const ROOT: Shape = Shape {
+    scalar: false,
     first: false,
     accumulates: false,
 };
 
 const FUSED: Shape = Shape {
+    scalar: false,
     first: true,
     accumulates: true,
 };
 
-const COUNT: usize = 8;
+// R2.2: one element.
+const SCALAR: Shape = Shape {
+    scalar: true,
+    first: true,
+    accumulates: false,
+};
+
+const FUSED_SCALAR: Shape = Shape {
+    scalar: true,
+    first: true,
+    accumulates: true,
+};
+
+const COUNT: usize = 16;
 
 const ROWS: [Row; COUNT] = [
     Row(0, 5, 0, 0x58, Operation::Add, PACKED),
@@ -42,6 +58,14 @@ const ROWS: [Row; COUNT] = [
     Row(1, 6, 0, 0x98, Operation::Fused132, FUSED),
     Row(1, 6, 0, 0xa8, Operation::Fused213, FUSED),
     Row(1, 6, 0, 0xb8, Operation::Fused231, FUSED),
+    Row(2, 5, 0, 0x58, Operation::Add, SCALAR),
+    Row(2, 5, 0, 0x59, Operation::Multiply, SCALAR),
+    Row(2, 5, 0, 0x5c, Operation::Subtract, SCALAR),
+    Row(2, 5, 0, 0x5e, Operation::Divide, SCALAR),
+    Row(2, 5, 0, 0x51, Operation::SquareRoot, SCALAR),
+    Row(1, 6, 0, 0x99, Operation::Fused132, FUSED_SCALAR),
+    Row(1, 6, 0, 0xa9, Operation::Fused213, FUSED_SCALAR),
+    Row(1, 6, 0, 0xb9, Operation::Fused231, FUSED_SCALAR),
 ];
 
 impl Row {

@@ -1,7 +1,7 @@
--- What a test picks.
+-- What a test picks, and what two tests say.
 -- Assumes nothing.
 use mathlib.Core.Path.{_≡_, refl}
-use mathlib.Core.Bool.{Bool, true, false, cond}
+use mathlib.Core.Bool.{Bool, true, false, cond, _||_, true≢false}
 
 module _ {A : Type 0} where
   -- what holds of both holds of the one that a test picks
@@ -23,3 +23,8 @@ module _ {A : Type 0} where
   pub either-equal : {x y : A} (z : A) (t : Bool) → (t ≡ true → x ≡ y) → cond t x z ≡ cond t y z
   either-equal z true h = h refl
   either-equal z false h = refl
+
+-- neither of two tests holds
+pub neither : (a b : Bool) → (a || b) ≡ false → (a ≡ false) × (b ≡ false)
+neither true b e = absurd (true≢false e)
+neither false b e = (refl, e)

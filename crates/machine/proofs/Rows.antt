@@ -13,7 +13,7 @@ use Rattle.evex.specs.Fields.{takesSib, headOf, listed, registerForm, registerB
 use Rattle.evex.specs.Fields.{displacementAt, displacementSize, second, first, elements, rounding, N, displacementOf, instruction}
 use Rattle.evex.specs.Fields as fields
 use Rattle.evex.specs.Decode.{noBytes, wrongFirstByte, fewerThanSixBytes, wrongFixedBits, notInList, reservedLength, zeroingWithoutMask}
-use Rattle.evex.specs.Decode.{extraSource, reservedForms, bytesMissing, headConditions, rowConditions, refusals}
+use Rattle.evex.specs.Decode.{extraSource, scalarBroadcast, reservedForms, bytesMissing, headConditions, rowConditions, refusals}
 use Rattle.evex.specs.Decode.{decoded}
 use Rattle.lists.specs.Lists.{table}
 use Rattle.machine.specs.Memory.{addressFrom, located, outside, on, needsOutside}
@@ -39,7 +39,7 @@ unfolding size units against whole rootFrom roundTo significant encode roundedHa
     halfDivide halfRoot halfMultiplyAdd starred rows takesSib headOf listed registerForm registerB vectorLanes hasSib
     baseBits indexOf noBase baseOf displacementAt displacementSize second first elements rounding fields.size N
     displacementOf instruction noBytes wrongFirstByte fewerThanSixBytes wrongFixedBits notInList reservedLength
-    zeroingWithoutMask extraSource reservedForms bytesMissing headConditions rowConditions refusals
+    zeroingWithoutMask extraSource scalarBroadcast reservedForms bytesMissing headConditions rowConditions refusals
     decoded table addressFrom located outside on needsOutside registerHalves memoryHalves gathered operated results raised
     raisesUnmasked controlAfter fill newRegister vectorsWith vectorsAfter wrongVectorFile highControlBit outsideMemory
     unmaskedException beforeSeven conditions answerOf stopped completed step

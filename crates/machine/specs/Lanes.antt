@@ -153,7 +153,7 @@ module _ (s : State) (i : Instruction) (g : Sources) where
   unfoldable pub controlAfter : ℕ
   controlAfter = recorded (i .rounding) (s .control) (added (i .rounding) (s .control) raised)
 
--- ---- R5.9: the destination
+-- ---- R5.9, R5.10: the destination
 
 -- what becomes of a lane: its result; what the same lane of a register held; 0
 pub data Fill : Type 0 where
@@ -161,12 +161,22 @@ pub data Fill : Type 0 where
   copied : ℕ → Fill
   zeroed : Fill
 
--- of the lanes of an instruction's destination
+-- R5.10: the register whose lanes 1 to 7 a scalar instruction leaves in its destination: the first source, or the destination itself where
+-- that is an operand. (Each has a first source; were there none, the lanes would stay.)
+abbrev pub registerOr : ℕ → Source → ℕ
+registerOr n source.None = n
+registerOr n (source.Register m) = m
+
+abbrev pub upperFrom : Instruction → ℕ
+upperFrom i = cond (i .shape .accumulates) (i .destination) (registerOr (i .destination) (i .first))
+
+-- of the lanes of an instruction's destination: elements that are on, elements that are off, lanes 1 to 7 of a scalar one (R5.10), others
 unfoldable pub fill : State → Instruction → ℕ → Fill
 fill s i j =
     cond (on s i j) computed
-    (cond (ltb j (i .elements) && not (i .zeroing)) (copied (i .destination))
-    zeroed)
+    (cond (ltb j (i .elements)) (cond (i .zeroing) zeroed (copied (i .destination)))
+    (cond (i .shape .scalar && ltb j 8) (copied (upperFrom i))
+    zeroed))
 
 -- byte q of a register whose lane is filled so, from these registers and results
 abbrev pub filled : List ℕ → List ℕ → ℕ → Fill → ℕ

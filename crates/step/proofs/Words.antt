@@ -2,22 +2,19 @@
 -- last lane lie inside.
 -- Assumes nothing.
 use Prim.Native.Nat.{ℕ, _+_, _*_, _%_, _^_, _<_, _≤_}
-use mathlib.Core.Path.{_≡_, refl}
-use mathlib.Core.Bool.{Bool, true, false, cond, _&&_, _||_, true≢false, and-false}
+use mathlib.Core.Path.{_≡_}
+use mathlib.Core.Bool.{Bool, true, false, cond, _&&_, and-false}
 use native.Mathlib.Decide.{decLt}
 use native.Mathlib.Omega.{arith}
 use borrow.Author.Tests.{leb-false, lt-leb}
 use lib.Dec.{leb}
 use Rattle.lists.specs.Lists.{some}
+use Rattle.lists.proofs.Tests.{neither}
 use Rattle.machine.specs.Memory.{wordFrom, wordBytes, outside}
 use Rattle.machine.specs.declared.Located.the-variants.{Words}
 use Rattle.evex.specs.Bits.{isSet}
 use Rattle.evex.proofs.Bitwise.{bit-above}
 use Rattle.step.proofs.Filling.{nowhere, found-none, found-all}
-
-neither : (a b : Bool) → (a || b) ≡ false → (a ≡ false) × (b ≡ false)
-neither true b e = absurd (true≢false e)
-neither false b e = (refl, e)
 
 pub record Inside (length w : ℕ) : Type 0 where
   pub below : w + 1 < length

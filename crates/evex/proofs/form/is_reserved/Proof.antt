@@ -14,13 +14,17 @@ zeroes-without-mask-requires c κs = search needs
 has-extra-source-requires : tie.Need-has-extra-source-requires
 has-extra-source-requires c κs = search needs
 
+has-scalar-broadcast-requires : tie.Need-has-scalar-broadcast-requires
+has-scalar-broadcast-requires c κs = search needs
+
 returns : tie.Need-returns
 unfolding reservedForms
 returns c =
     rw (
-      c .before .before .has-reserved-length .ensures,
-      c .before .zeroes-without-mask .ensures,
-      c .has-extra-source .ensures,
+      c .before .before .before .has-reserved-length .ensures,
+      c .before .before .zeroes-without-mask .ensures,
+      c .before .has-extra-source .ensures,
+      c .has-scalar-broadcast .ensures,
       or-false _,
     )
 
@@ -31,4 +35,5 @@ is-reserved-spec =
     has-reserved-length-requires
     zeroes-without-mask-requires
     has-extra-source-requires
+    has-scalar-broadcast-requires
     returns)
