@@ -124,5 +124,6 @@ pub(crate) fn is_reserved(head: Head, row: Row) -> bool
     ensures { λ r. ⌜ r ≡ some (λ reserved. reserved) (reservedForms head row) ⌝ }
 {
     head.has_reserved_length()
-        | (head.zeroes_without_mask() | (has_extra_source(head, row) | has_scalar_broadcast(head, row)))
+        | (head.zeroes_without_mask()
+            | (has_extra_source(head, row) | has_scalar_broadcast(head, row)))
 }

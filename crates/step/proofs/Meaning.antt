@@ -1,11 +1,12 @@
 -- What the parts of a step compute is what the machine defines.
 -- Assumes nothing.
-use Prim.Native.Nat.{ℕ, _/_, _%_, _^_, _<_}
+use Prim.Native.Nat.{ℕ, _/_, _%_, _^_, _<_, _≤_}
 use mathlib.Core.Path.{_≡_, refl, sym, ap, _∙_}
-use mathlib.Core.Bool.{Bool, true, false, cond, not, _&&_}
+use mathlib.Core.Bool.{Bool, true, false, cond, not, _&&_, true≢false, false≢true}
 use mathlib.Core.List.{List}
 use native.Mathlib.Nat.{zero-div}
 use native.Mathlib.Omega.{arith}
+use borrow.Author.Tests.{le-ltb, ltb-false}
 use lib.Dec.{ltb}
 use lib.ListN.{length, getD}
 use lib.Seq.{paste}
@@ -25,12 +26,12 @@ use Rattle.machine.specs.declared.Element.{Element}
 use Rattle.machine.specs.State.{State, Stepped, registerAt, steppedOf}
 use Rattle.machine.specs.Memory.{isOn, on, nextPointer, located, outside, secondAt, needsOutside}
 use Rattle.machine.specs.Lanes.{Sources, raises, environmentOf, recorded, added, lanesOn, registerHalves, destinationHalves, firstHalves}
-use Rattle.machine.specs.Lanes.{secondHalves, gathered, elementAt, results, raised, raisesUnmasked, controlAfter, computed, copied, zeroed}
-use Rattle.machine.specs.Lanes.{fill, filled, newRegister, vectorsWith, vectorsAfter}
+use Rattle.machine.specs.Lanes.{secondHalves, gathered, elementAt, results, raised, raisesUnmasked, controlAfter, Fill, computed, copied, zeroed}
+use Rattle.machine.specs.Lanes.{upperFrom, fill, filled, newRegister, vectorsWith, vectorsAfter}
 use Rattle.machine.specs.Step.{refused, stopped, completed, step}
 use Rattle.machine.proofs.Ends.{refuses-memory, stops, completes}
 use Rattle.step.specs.declared.lanes.Results.{Results}
-use Rattle.step.specs.Work.{everyLane, keptBy, secondGathered, resultsWhere, keptOr, Left, leftOf, finished, executed}
+use Rattle.step.specs.Work.{everyLane, secondGathered, resultsWhere, storedBy, Left, leftOf, finished, executed}
 
 -- ---- sources: what a lane that is off has does not count
 
@@ -78,21 +79,46 @@ module _ (s : State) (i : Instruction) (g : Sources) where
   unfolding results
   off j h e = getD-table 32 _ j 0 h ∙ rw e
 
-  filled-by : (q : ℕ) (t u : Bool) → (t ≡ false → getD (results s i g) (q / 2) 0 ≡ 0)
-      → filled (s .vectors) (results s i g) q (cond (not t && u) (copied (i .destination)) computed)
-      ≡ filled (s .vectors) (results s i g) q (cond t computed (cond u (copied (i .destination)) zeroed))
-  filled-by q true u z = refl
-  filled-by q false true z = refl
-  filled-by q false false z = rw (z refl, zero-div (256 ^ (q % 2)))
+  abbrev byteBy : ℕ → Fill → ℕ
+  byteBy q f = filled (s .vectors) (results s i g) q f
 
-  stored-is :
-      vectorsWith (keptOr (keptBy (on s i) i) (i .destination)) (s .vectors) (results s i g) (i .destination)
-      ≡ vectorsAfter s i (results s i g)
+  -- by whether the lane is on, holds an element, and is zeroed where it is off
+  element-by : (q : ℕ) (t u z : Bool) → (t ≡ false → getD (results s i g) (q / 2) 0 ≡ 0)
+      → byteBy q (cond (not t && (u && not z)) (copied (i .destination)) computed)
+      ≡ byteBy q (cond t computed (cond u (cond z zeroed (copied (i .destination))) zeroed))
+  element-by q true u z e = refl
+  element-by q false true true e = rw (e refl, zero-div (256 ^ (q % 2)))
+  element-by q false true false e = refl
+  element-by q false false z e = rw (e refl, zero-div (256 ^ (q % 2)))
+
+  above-off : (j : ℕ) → i .elements ≤ j → on s i j ≡ false
+  unfolding on
+  above-off j h = rw (le-ltb j (i .elements) h)
+
+  -- and by whether the instruction is scalar, the lane its first, and one of eight
+  lane-by : (q : ℕ) (scalar first eight t u z : Bool) → (t ≡ false → getD (results s i g) (q / 2) 0 ≡ 0)
+      → (u ≡ false → t ≡ false) → (scalar ≡ true → first ≡ u)
+      → byteBy q
+      (cond scalar (cond first (cond (not t && (u && not z)) (copied (i .destination)) computed) (cond eight (copied (upperFrom i)) zeroed))
+      (cond (not t && (u && not z)) (copied (i .destination)) computed))
+      ≡ byteBy q
+      (cond t computed (cond u (cond z zeroed (copied (i .destination))) (cond (scalar && eight) (copied (upperFrom i)) zeroed)))
+  lane-by q false first eight t u z e below same = element-by q t u z e
+  lane-by q true true eight t true z e below same = element-by q t true z e
+  lane-by q true false eight false false z e below same = refl
+  lane-by q true false eight true false z e below same = absurd (true≢false (below refl))
+  lane-by q true true eight t false z e below same = absurd (true≢false (same refl))
+  lane-by q true false eight t true z e below same = absurd (false≢true (same refl))
+
+  stored-is : (i .shape .scalar ≡ true → i .elements ≡ 1)
+      → vectorsWith (storedBy (on s i) i) (s .vectors) (results s i g) (i .destination) ≡ vectorsAfter s i (results s i g)
   unfolding vectorsWith vectorsAfter newRegister fill
-  stored-is =
+  stored-is one =
       ap (λ (bytes : List ℕ). paste (s .vectors) (registerAt (i .destination)) bytes 64)
       (table-equal 64
-      (λ q h. filled-by q (on s i (q / 2)) (ltb (q / 2) (i .elements) && not (i .zeroing)) (off (q / 2) (omega arith))))
+      (λ q h.
+      lane-by q (i .shape .scalar) (ltb (q / 2) 1) (ltb (q / 2) 8) (on s i (q / 2)) (ltb (q / 2) (i .elements)) (i .zeroing)
+      (off (q / 2) (omega arith)) (λ e. above-off (q / 2) (ltb-false _ _ e)) (λ e. ap (λ (n : ℕ). ltb (q / 2) n) (sym (one e)))))
 
 -- ---- the whole, from what the parts give
 
@@ -137,12 +163,13 @@ module _ (memory : List ℕ) (s : State) (i : Instruction) (p : ℕ → Bool) (e
         (second-agrees (on s i) (s .vectors) memory (secondAt s i))
         ∙ results-are s i (gathered memory s i))
 
-    pub finishes : {l : Left} → l ≡ finished p i r next (s .vectors) (s .control) (s .pointer) → joined s l ≡ executed memory s i
+    pub finishes : (i .shape .scalar ≡ true → i .elements ≡ 1) → {l : Left} → l ≡ finished p i r next (s .vectors) (s .control) (s .pointer)
+        → joined s l ≡ executed memory s i
     unfolding executed finished raisesUnmasked stopped completed controlAfter
-    finishes left =
+    finishes one left =
         let g = gathered memory s i in
         let control = recorded (i .rounding) (s .control) (added (i .rounding) (s .control) (raised s i g)) in
-        rw (left, ← outside-is, inside, computed-is, lanes-are, stored-is s i g, n)
+        rw (left, ← outside-is, inside, computed-is, lanes-are, stored-is s i g one, n)
         (either s (raises (i .rounding) (s .control) (raised s i g))
         (leftOf (record { number = 8; length = 0 }) (s .vectors) control (s .pointer))
         (leftOf (record { number = 0; length = i .size }) (vectorsAfter s i (results s i g)) control (nextPointer s i)))

@@ -18,7 +18,7 @@ use Rattle.machine.specs.declared.Environment.{Environment}
 use Rattle.machine.specs.State.{State, Stepped}
 use Rattle.machine.specs.Memory.{needsOutside}
 use Rattle.machine.specs.Lanes.{Sources, lanesOn, registerHalves, memoryHalves, gathered, elementAt, raises, recorded, added}
-use Rattle.machine.specs.Lanes.{raisesUnmasked, Fill, computed, copied, vectorsWith}
+use Rattle.machine.specs.Lanes.{raisesUnmasked, Fill, computed, copied, zeroed, upperFrom, vectorsWith}
 use Rattle.machine.specs.Step.{refused, stopped, completed}
 use Rattle.step.specs.declared.lanes.Results.{Results}
 
@@ -58,6 +58,15 @@ resultsWhere on op e g =
 abbrev pub keptOr : (ℕ → Bool) → ℕ → ℕ → Fill
 keptOr kept n j = cond (kept j) (copied n) computed
 
+-- the same of lane 0 alone, lanes 1 to 7 taken from another register, 0 in all others
+abbrev pub scalarOr : (ℕ → Bool) → ℕ → ℕ → ℕ → Fill
+scalarOr kept from n j = cond (ltb j 1) (keptOr kept n j) (cond (ltb j 8) (copied from) zeroed)
+
+-- of an instruction's destination
+abbrev pub storedBy : (ℕ → Bool) → Instruction → ℕ → Fill
+storedBy on i j =
+    cond (i .shape .scalar) (scalarOr (keptBy on i) (upperFrom i) (i .destination) j) (keptOr (keptBy on i) (i .destination) j)
+
 -- ---- the whole
 
 -- what an instruction leaves of what it may write, and its answer
@@ -78,7 +87,7 @@ finished on i r next vectors control pointer =
     (leftOf (record { number = 8; length = 0 }) vectors flagged pointer)
     (leftOf
     (record { number = 0; length = i .size })
-    (vectorsWith (keptOr (keptBy on i) (i .destination)) vectors (r .halves) (i .destination))
+    (vectorsWith (storedBy on i) vectors (r .halves) (i .destination))
     flagged
     next)
 

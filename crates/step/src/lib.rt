@@ -14,7 +14,6 @@ use evex::Instruction;
 use lanes::Results;
 use lanes::all_lanes;
 use machine::Answer;
-use mask::lanes_kept;
 use mask::lanes_on;
 use sources::destination_halves;
 use sources::first_halves;
@@ -68,8 +67,7 @@ fn finish(
         return ended(8);
     }
     let halves = results.halves;
-    let kept = lanes_kept(on, i);
-    store(vectors, i.destination, kept, halves);
+    store(vectors, on, i, halves);
     // R7.4: where nothing stops it no flag is left out.
     let flagged = word.recorded(rounding, results.flags);
     *control = flagged.bits;

@@ -84,6 +84,7 @@ returns-2 c =
       second .second-halves .ensures,
     )
     at (lanes .all-lanes .ensures))
+    (start .pre .1 .one)
     (c .before .before .finish .ensures)
 
 pub execute-spec : {M : Type 1} → statement M

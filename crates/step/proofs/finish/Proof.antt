@@ -30,17 +30,14 @@ returns c =
     (start .args .pointer .now))
     (c .before .recorded .ensures))
 
-lanes-kept-requires : tie.Need-lanes-kept-requires
-lanes-kept-requires c κs = search needs
-
 store-requires : tie.Need-store-requires
 store-requires c κs = search needs
 
 recorded-requires-2 : tie.Need-recorded-requires-2
 recorded-requires-2 c κs = search needs
 
-cast-t14 : tie.Need-cast-t14
-cast-t14 c = search needs
+cast-t13 : tie.Need-cast-t13
+cast-t13 c = search needs
 
 same-length : tie.Need-same-length
 same-length c = search needs
@@ -48,14 +45,13 @@ same-length c = search needs
 returns-2 : tie.Need-returns-2
 unfolding finished
 returns-2 c =
-    let raised : tie.After-raises = c .before .before .before .before .before .before .before .before .before in
-    let none = sym (raised .raises .ensures) ∙ c .before .before .before .before .before .before .before .before .if1 .left in
+    let raised : tie.After-raises = c .before .before .before .before .before .before .before .before in
+    let none = sym (raised .raises .ensures) ∙ c .before .before .before .before .before .before .before .if1 .left in
     rw (
       all-added _ _ _ none,
       none,
       c .before .recorded2 .ensures,
       c .before .before .before .before .store .ensures,
-      c .before .before .before .before .before .before .lanes-kept .ensures,
     )
 
 pub finish-spec : {M : Type 1} → statement M
@@ -67,9 +63,8 @@ finish-spec =
     recorded-requires
     ended-requires
     returns
-    lanes-kept-requires
     store-requires
     recorded-requires-2
-    cast-t14
+    cast-t13
     same-length
     returns-2)

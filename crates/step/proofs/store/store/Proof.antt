@@ -1,49 +1,52 @@
--- `step::store::store` meets its contract: the register's 64 bytes are lent, and come back in their place.
-use Prim.Native.Nat.{_+_, _*_, _-_}
-use mathlib.Core.Path.{_≡_}
-use native.Mathlib.Omega.{arith}
-use Rattle.evex.specs.Bits.{isSet}
-use Rattle.step.proofs.Stored.{pasted}
+-- `step::store::store` meets its contract: by the column.
 use borrow.Author.Needs.{needs}
 use Rattle.step.proofs.store.store.Statement.{statement}
 use Rattle.step.proofs.store.store.Tie as tie
 
-mul-at : tie.Need-mul-at
-mul-at c = search needs
+lanes-kept-requires : tie.Need-lanes-kept-requires
+lanes-kept-requires c κs = search needs
 
-add-end : tie.Need-add-end
-add-end c = search needs
+upper-from-requires : tie.Need-upper-from-requires
+upper-from-requires c κs = search needs
 
-sub-store-lanes : tie.Need-sub-store-lanes
-sub-store-lanes c = search needs
-
-part-store-lanes-start : tie.Need-part-store-lanes-start
-part-store-lanes-start c = search needs
-
-part-store-lanes-end : tie.Need-part-store-lanes-end
-part-store-lanes-end c = search needs
-
-store-lanes-requires : tie.Need-store-lanes-requires
-store-lanes-requires c κs = search needs
+store-scalar-requires : tie.Need-store-scalar-requires
+store-scalar-requires c κs = search needs
 
 same-length : tie.Need-same-length
 same-length c = search needs
 
 returns : tie.Need-returns
 returns c =
-    let args = c .before .before .before .before .before .args in
-    let e : args .n * 64 + 64 - args .n * 64 ≡ 64 = omega arith in
-    rw (c .before .before .store-lanes .ensures, e) (pasted (isSet (args .kept)) (args .halves) (args .vectors .now) (args .n))
+    rw (
+      c .before .before .store-scalar .ensures,
+      c .before .before .before .upper-from .ensures .0,
+      c .before .before .before .before .before .before .before .lanes-kept .ensures,
+      c .before .before .before .before .before .if1 .taken,
+    )
+
+store-packed-requires : tie.Need-store-packed-requires
+store-packed-requires c κs = search needs
+
+same-length-2 : tie.Need-same-length-2
+same-length-2 c = search needs
+
+returns-2 : tie.Need-returns-2
+returns-2 c =
+    rw (
+      c .before .before .store-packed .ensures,
+      c .before .before .before .before .before .before .lanes-kept .ensures,
+      c .before .before .before .before .if1 .left,
+    )
 
 pub store-spec : {M : Type 1} → statement M
 store-spec =
     tie.close
     (tie.spec
-    mul-at
-    add-end
-    sub-store-lanes
-    part-store-lanes-start
-    part-store-lanes-end
-    store-lanes-requires
+    lanes-kept-requires
+    upper-from-requires
+    store-scalar-requires
     same-length
-    returns)
+    returns
+    store-packed-requires
+    same-length-2
+    returns-2)
