@@ -5,6 +5,7 @@ pub mod Answers
 pub mod Agree
 pub mod TwoRuns
 pub mod OffLanes
+pub mod VectorFile
 pub mod ControlWord
 pub mod Rows
 pub mod Theorems

@@ -7,7 +7,7 @@ use mathlib.Core.Logic.{_≢_}
 use mathlib.Core.Bool.{Bool, true, false, cond, _&&_, and-eq-true-iff, false≢true}
 use mathlib.Core.List.{List, List·Memᴰ}
 use native.Mathlib.Omega.{arith}
-use borrow.Author.Tests.{ltb-true, le-leb, leb-true, ne-eqb, eqb-false, not-true}
+use borrow.Author.Tests.{ltb-true, le-ltb, le-leb, leb-true, ne-eqb, eqb-false, not-true}
 use lib.Bits.{bitAnd}
 use lib.Dec.{leb}
 use Rattle.evex.specs.Decode.{decoded}
@@ -20,12 +20,22 @@ use Rattle.machine.specs.State.{State}
 use Rattle.machine.specs.Memory.{on, bytesRead, outside, needsOutside}
 use Rattle.machine.specs.Lanes.{Sources, unmasked, laneOf, raised, raisesUnmasked}
 use Rattle.machine.specs.TwoRuns.{Needs}
-use Rattle.machine.specs.OffLanes.{Faults, Raises, Flags, OffLanes}
+use Rattle.machine.specs.OffLanes.{Faults, Raises, Flags, OffLanes, ScalarLanes}
+
+element-below : (s : State) (i : Instruction) (j : ℕ) → on s i j ≡ true → j < i .elements
+unfolding on
+element-below s i j t = ltb-true j (i .elements) (and-eq-true-iff _ _ .0 t .0)
+
+pub above-off : (s : State) (i : Instruction) (j : ℕ) → i .elements ≤ j → on s i j ≡ false
+unfolding on
+above-off s i j h = rw (le-ltb j (i .elements) h)
+
+pub scalar-lanes : ScalarLanes
+scalar-lanes s code i fields one j t = omega (arith, element-below s i j t, bounds code fields .one one)
 
 module _ (s : State) (code : List ℕ) (i : Instruction) (fields : decoded code ≡ Fields i) where
   on-below : (j : ℕ) → on s i j ≡ true → j < 32
-  unfolding on
-  on-below j h = omega (arith, ltb-true j (i .elements) (and-eq-true-iff _ _ .0 h .0), bounds code fields .elements)
+  on-below j t = omega (arith, element-below s i j t, bounds code fields .elements)
 
   module _ (n : ℕ) where
     abbrev reads : ℕ → Bool

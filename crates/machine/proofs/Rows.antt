@@ -1,4 +1,4 @@
--- The bytes to try, the starred rows and the two stages, by computation.
+-- The bytes to try, the starred rows, the two stages and the scalar steps, by computation.
 -- Assumes nothing.
 use mathlib.Core.Path.{refl}
 use lib.Ieee.{size}
@@ -32,9 +32,9 @@ use Rattle.machine.specs.Step.{
   step,
 }
 use Rattle.machine.specs.Bytes.{DecodedBytes}
-use Rattle.machine.specs.Rows.{StarredRows, TwoStages}
+use Rattle.machine.specs.Rows.{StarredRows, TwoStages, ScalarRows}
 
-computed : DecodedBytes × StarredRows × TwoStages
+computed : DecodedBytes × StarredRows × TwoStages × ScalarRows
 unfolding size units against whole rootFrom roundTo significant encode roundedHalf modeOfBits exactSum halfAdd halfMultiply
     halfDivide halfRoot halfMultiplyAdd starred rows takesSib headOf listed registerForm registerB vectorLanes hasSib
     baseBits indexOf noBase baseOf displacementAt displacementSize second first elements rounding fields.size N
@@ -43,7 +43,7 @@ unfolding size units against whole rootFrom roundTo significant encode roundedHa
     decoded table addressFrom located outside on needsOutside registerHalves memoryHalves gathered operated results raised
     raisesUnmasked controlAfter fill newRegister vectorsWith vectorsAfter wrongVectorFile highControlBit outsideMemory
     unmaskedException beforeSeven conditions answerOf stopped completed step
-computed = ((refl, refl, refl, refl, refl), refl, refl)
+computed = ((refl, refl, refl, refl, refl), refl, refl, refl)
 
 pub decoded-bytes : DecodedBytes
 decoded-bytes = computed .0
@@ -53,3 +53,6 @@ starred-rows = computed .1
 
 pub two-stages : TwoStages
 two-stages = computed .2
+
+pub scalar-rows : ScalarRows
+scalar-rows = computed .3

@@ -2,10 +2,11 @@
 -- Assumes nothing.
 use Rattle.machine.specs.Theorems.{Theorems}
 use Rattle.machine.proofs.Answers.{answers, bytes-after, first-bytes, no-six, lengths}
-use Rattle.machine.proofs.OffLanes.{off-lanes}
+use Rattle.machine.proofs.OffLanes.{off-lanes, scalar-lanes}
+use Rattle.machine.proofs.VectorFile.{vector-file}
 use Rattle.machine.proofs.ControlWord.{control-word}
 use Rattle.machine.proofs.TwoRuns.{two-runs}
-use Rattle.machine.proofs.Rows.{decoded-bytes, starred-rows, two-stages}
+use Rattle.machine.proofs.Rows.{decoded-bytes, starred-rows, two-stages, scalar-rows}
 
 pub theorems : Theorems
 theorems =
@@ -16,9 +17,12 @@ theorems =
       noSix = no-six;
       lengths = lengths;
       offLanes = off-lanes;
+      scalarLanes = scalar-lanes;
+      vectorFile = vector-file;
       controlWord = control-word;
       twoRuns = two-runs;
       decodedBytes = decoded-bytes;
       starredRows = starred-rows;
       twoStages = two-stages;
+      scalarRows = scalar-rows;
     }

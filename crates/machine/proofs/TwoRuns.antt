@@ -35,6 +35,11 @@ pub new-length : (how : ℕ → Fill) (vectors halves : List ℕ) → length (ne
 unfolding newRegister
 new-length how vectors halves = length-table 64 _
 
+pub new-byte : (how : ℕ → Fill) (vectors halves : List ℕ) (q : ℕ) → q < 64
+    → getD (newRegister how vectors halves) q 0 ≡ filled vectors halves q (how (q / 2))
+unfolding newRegister
+new-byte how vectors halves q h = getD-table 64 _ q 0 h
+
 -- ---- what looks at the registers alone
 
 -- the state with another vector file
@@ -121,17 +126,13 @@ module _ (HiddenLane HiddenByte : ℕ → Type 0) where
       filled-equal k h o (copied m) = equal-at files (registerAt m + k) (λ _. subst (λ (x : ℕ). ¬ HiddenLane x) (omega arith) o)
       filled-equal k h o zeroed = refl
 
-      new-byte : (vectors : List ℕ) (k : ℕ) → k < 64 → getD (newRegister how vectors halves) k 0 ≡ filled vectors halves k (how (k / 2))
-      unfolding newRegister
-      new-byte vectors k h = getD-table 64 _ k 0 h
-
       filled-alike : registerAt n + 64 ≤ length (s .vectors)
           → EqualOpen HiddenPlace (vectorsWith how (s .vectors) halves n) (vectorsWith how v halves n)
       unfolding vectorsWith
       filled-alike fits =
           paste-equal (registerAt n) 64 (newRegister how (s .vectors) halves) (newRegister how v halves)
           files fits (new-length how (s .vectors) halves) (new-length how v halves)
-          (λ k h o. new-byte (s .vectors) k h ∙ filled-equal k h o (how (k / 2)) ∙ sym (new-byte v k h))
+          (λ k h o. new-byte how (s .vectors) halves k h ∙ filled-equal k h o (how (k / 2)) ∙ sym (new-byte how v halves k h))
 
     written-alike : (halves : List ℕ) → registerAt (i .destination) + 64 ≤ length (s .vectors)
         → EqualOpen HiddenPlace (vectorsAfter s i halves) (vectorsAfter (withVectors s v) i halves)

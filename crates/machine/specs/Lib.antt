@@ -6,6 +6,7 @@ pub mod Step
 pub mod Answers
 pub mod TwoRuns
 pub mod OffLanes
+pub mod VectorFile
 pub mod ControlWord
 pub mod Bytes
 pub mod Rows

@@ -31,6 +31,11 @@ module _ (s : State) (i : Instruction) where
   Flags =
       (g : Sources) (set : ℕ) → (bitAnd (raised s i g) set ≢ 0) ↔ ((j : ℕ) × SwitchesOn s i j × (bitAnd (laneOf s i g j .flags) set ≢ 0))
 
+-- R3.7, R5.1: a scalar instruction switches on lane 0 or none.
+abbrev pub ScalarLanes : Type 0
+ScalarLanes =
+    (s : State) (code : List ℕ) (i : Instruction) → decoded code ≡ Fields i → i .shape .scalar ≡ true → (j : ℕ) → SwitchesOn s i j → j ≡ 0
+
 -- R5.2: of every instruction.
 abbrev pub OffLanes : Type 0
 OffLanes = (s : State) (code : List ℕ) (i : Instruction) → decoded code ≡ Fields i → Faults s i × Raises s i × Flags s i

@@ -1,5 +1,6 @@
--- docs/RULES.md, R12.1 and R12.4: the examples marked *. One statement over the single table `starred` of the arithmetic, shown for the
--- arithmetic and for a step, and one over the control words of a step of two lanes. Their proofs are in proofs/Rows.antt.
+-- docs/RULES.md, R12.1, R12.4 and R12.5: the examples marked *. One statement over the single table `starred` of the arithmetic, shown for
+-- the arithmetic and for a step, one over the control words of a step of two lanes, and one over scalar steps. Their proofs are in
+-- proofs/Rows.antt.
 use Prim.Native.Nat.{ℕ, _+_, _*_, _/_, _%_, _^_}
 use mathlib.Core.Path.{_≡_}
 use mathlib.Core.Bool.{cond}
@@ -23,7 +24,7 @@ bytesOf over = 0x62 ∷ 0xF5 ∷ 0x74 ∷ 0x49 ∷ 0x5E ∷ 0xC2 ∷ []
 bytesOf root = 0x62 ∷ 0xF5 ∷ 0x7C ∷ 0x49 ∷ 0x51 ∷ 0xC1 ∷ []
 bytesOf fused = 0x62 ∷ 0xF6 ∷ 0x75 ∷ 0x49 ∷ 0xB8 ∷ 0xC2 ∷ []
 
--- ---- R12.1, R12.4: the state
+-- ---- R12.1, R12.4, R12.5: the state
 
 -- halves as bytes, the low one first
 abbrev bytesOfHalves : List ℕ → List ℕ
@@ -98,3 +99,37 @@ abbrev pub TwoStages : Type 0
 TwoStages =
     map (λ c. step [] (stagesStart (c .0)) (bytesOf over)) stages
     ≡ map (λ c. record { answer = record { number = 8; length = 0 }; state = stagesStart (c .1) }) stages
+
+-- ---- R12.5: scalar instructions, each register with other lanes than the others
+
+-- a half in lane 0, and n more in each lane from 1 to 8
+abbrev counting : ℕ → ℕ → List ℕ
+counting half n = half ∷ (n + 1) ∷ (n + 2) ∷ (n + 3) ∷ (n + 4) ∷ (n + 5) ∷ (n + 6) ∷ (n + 7) ∷ (n + 8) ∷ []
+
+-- registers 0, 1 and 2 hold 4, 1 and 4 in lane 0
+abbrev pub scalarStart : ℕ → State
+scalarStart mask = stateWith (counting 0x4400 0x10) (counting 0x3C00 0x20) (counting 0x4400 0x30) mask 0x1F80 0
+
+-- the same, with register 0 as a step has left it: a half in lane 0, lanes 1 to 7 from where they were, 0 above
+abbrev scalarAfter : ℕ → ℕ → ℕ → State
+scalarAfter mask half n =
+    stateWith (take 8 (counting half n) ++ replicate 24 0) (counting 0x3C00 0x20) (counting 0x4400 0x30) mask 0x1F80 6
+
+-- code, mask 1, and what is left: the half of lane 0, and what stands before the lanes above it
+abbrev pub scalarRows : List (List ℕ × ℕ × ℕ × ℕ)
+scalarRows =
+    -- VADDSH of registers 1 and 2; the same with lane 0 off, and so with zeroing
+    ((0x62 ∷ 0xF5 ∷ 0x76 ∷ 0x09 ∷ 0x58 ∷ 0xC2 ∷ []), 1, 0x4500, 0x20)
+    ∷ ((0x62 ∷ 0xF5 ∷ 0x76 ∷ 0x09 ∷ 0x58 ∷ 0xC2 ∷ []), 0xFE, 0x4400, 0x20)
+    ∷ ((0x62 ∷ 0xF5 ∷ 0x76 ∷ 0x89 ∷ 0x58 ∷ 0xC2 ∷ []), 0xFE, 0, 0x20)
+    -- VSQRTSH of register 2, with register 1 as first source
+    ∷ ((0x62 ∷ 0xF5 ∷ 0x76 ∷ 0x09 ∷ 0x51 ∷ 0xC2 ∷ []), 1, 0x4000, 0x20)
+    -- VFMADD231SH of registers 1 and 2
+    ∷ ((0x62 ∷ 0xF6 ∷ 0x75 ∷ 0x09 ∷ 0xB9 ∷ 0xC2 ∷ []), 1, 0x4800, 0x10)
+    ∷ []
+
+-- Each is done, as a step of six bytes.
+abbrev pub ScalarRows : Type 0
+ScalarRows =
+    map (λ r. step [] (scalarStart (r .1)) (r .0)) scalarRows
+    ≡ map (λ r. record { answer = record { number = 0; length = 6 }; state = scalarAfter (r .1) (r .2) (r .3) }) scalarRows

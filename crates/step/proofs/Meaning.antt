@@ -6,7 +6,7 @@ use mathlib.Core.Bool.{Bool, true, false, cond, not, _&&_, true≢false, false�
 use mathlib.Core.List.{List}
 use native.Mathlib.Nat.{zero-div}
 use native.Mathlib.Omega.{arith}
-use borrow.Author.Tests.{le-ltb, ltb-false}
+use borrow.Author.Tests.{ltb-false}
 use lib.Dec.{ltb}
 use lib.ListN.{length, getD}
 use lib.Seq.{paste}
@@ -30,6 +30,7 @@ use Rattle.machine.specs.Lanes.{secondHalves, gathered, elementAt, results, rai
 use Rattle.machine.specs.Lanes.{upperFrom, fill, filled, newRegister, vectorsWith, vectorsAfter}
 use Rattle.machine.specs.Step.{refused, stopped, completed, step}
 use Rattle.machine.proofs.Ends.{refuses-memory, stops, completes}
+use Rattle.machine.proofs.OffLanes.{above-off}
 use Rattle.step.specs.declared.lanes.Results.{Results}
 use Rattle.step.specs.Work.{everyLane, secondGathered, resultsWhere, storedBy, Left, leftOf, finished, executed}
 
@@ -91,10 +92,6 @@ module _ (s : State) (i : Instruction) (g : Sources) where
   element-by q false true false e = refl
   element-by q false false z e = rw (e refl, zero-div (256 ^ (q % 2)))
 
-  above-off : (j : ℕ) → i .elements ≤ j → on s i j ≡ false
-  unfolding on
-  above-off j h = rw (le-ltb j (i .elements) h)
-
   -- and by whether the instruction is scalar, the lane its first, and one of eight
   lane-by : (q : ℕ) (scalar first eight t u z : Bool) → (t ≡ false → getD (results s i g) (q / 2) 0 ≡ 0)
       → (u ≡ false → t ≡ false) → (scalar ≡ true → first ≡ u)
@@ -118,7 +115,7 @@ module _ (s : State) (i : Instruction) (g : Sources) where
       (table-equal 64
       (λ q h.
       lane-by q (i .shape .scalar) (ltb (q / 2) 1) (ltb (q / 2) 8) (on s i (q / 2)) (ltb (q / 2) (i .elements)) (i .zeroing)
-      (off (q / 2) (omega arith)) (λ e. above-off (q / 2) (ltb-false _ _ e)) (λ e. ap (λ (n : ℕ). ltb (q / 2) n) (sym (one e)))))
+      (off (q / 2) (omega arith)) (λ e. above-off s i (q / 2) (ltb-false _ _ e)) (λ e. ap (λ (n : ℕ). ltb (q / 2) n) (sym (one e)))))
 
 -- ---- the whole, from what the parts give
 
