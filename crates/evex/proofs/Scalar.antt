@@ -2,24 +2,21 @@
 -- Assumes nothing.
 use mathlib.Core.Path.{_≡_, refl, sym, ap, _∙_}
 use mathlib.Core.Bool.{Bool, true, false, cond, not, _&&_, and-true}
-use mathlib.Core.List.{List}
 use Prim.Native.Nat.{ℕ}
 use borrow.Author.Tests.{not-false}
 use Rattle.lists.specs.Lists.{some}
 use Rattle.evex.specs.List.{rows, shape}
 use Rattle.evex.specs.Fields.{headOf, b, registerForm, listed, firstSource, second, first, instruction}
-use Rattle.evex.specs.Decode.{decoded, scalarBroadcast, reservedForms}
+use Rattle.evex.specs.Decode.{scalarBroadcast, reservedForms}
 use Rattle.evex.specs.Scalar.{ScalarForms}
 use Rattle.evex.specs.declared.head.Head.{Head}
 use Rattle.evex.specs.declared.list.Row.{Row}
 use Rattle.evex.specs.declared.list.Listed.the-variants.{Found}
-use Rattle.evex.specs.declared.Source.{Source}
 use Rattle.evex.specs.declared.Source.the-variants as source
 use Rattle.evex.specs.declared.Address.{Address}
 use Rattle.evex.specs.declared.Operand.{Operand}
 use Rattle.evex.specs.declared.Operand.the-variants as operand
 use Rattle.evex.specs.declared.Instruction.{Instruction}
-use Rattle.evex.specs.declared.Decoded.the-variants.{Fields}
 use Rattle.evex.proofs.Bounds.{bounds}
 use Rattle.evex.proofs.Search.{passesTest, none-found}
 use Rattle.evex.proofs.After.{whole}

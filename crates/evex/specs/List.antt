@@ -24,11 +24,11 @@ root = record { scalar = false; first = false; accumulates = false }
 abbrev pub fused : Shape
 fused = record { scalar = false; first = true; accumulates = true }
 
--- one element; the root has a first source too
+-- one element, and two sources, of the root too
 abbrev pub scalar : Shape
 scalar = record { scalar = true; first = true; accumulates = false }
 
--- one element, of two sources and the destination
+-- one element, and two sources and the destination
 abbrev pub fusedScalar : Shape
 fusedScalar = record { scalar = true; first = true; accumulates = true }
 

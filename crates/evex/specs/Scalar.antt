@@ -10,7 +10,7 @@ use Rattle.evex.specs.declared.Operand.the-variants as operand
 use Rattle.evex.specs.declared.Instruction.{Instruction}
 use Rattle.evex.specs.declared.Decoded.the-variants.{Fields}
 
--- of an instruction
+-- R2.2, R3.7, R4.10: of an instruction
 pub record OneElement (i : Instruction) : Type 0 where
   -- R3.7: whatever the length bits
   pub elements : i .elements ≡ 1
@@ -19,6 +19,6 @@ pub record OneElement (i : Instruction) : Type 0 where
   -- R4.10: b in memory form is refused
   pub plain : (address : Address) (broadcast : Bool) → i .second ≡ operand.Memory address broadcast → broadcast ≡ false
 
--- Of every scalar instruction.
+-- R3.7: of every scalar instruction.
 abbrev pub ScalarForms : Type 0
 ScalarForms = (code : List ℕ) (i : Instruction) → decoded code ≡ Fields i → i .shape .scalar ≡ true → OneElement i

@@ -1,8 +1,8 @@
--- R5.9, R5.10: the statement of specs/VectorFile.antt. Outside the destination the file is as before; inside, a byte goes by what becomes of
--- its lane, and each case of that is one of the statement's.
+-- R5.9, R5.10: the statement of specs/VectorFile.antt. Outside the destination the file is as before; inside, a byte goes by what becomes
+-- of its lane, and each case of that is one of the statement's.
 -- Assumes nothing.
 use Prim.Native.Nat.{ℕ, _+_, _-_, _/_, _%_, _^_, _<_, _≤_}
-use mathlib.Core.Path.{_≡_, refl, sym, ap, subst, _∙_}
+use mathlib.Core.Path.{_≡_, refl, ap, subst, _∙_}
 use mathlib.Core.Logic.{_≢_}
 use mathlib.Core.Bool.{Bool, true, false, cond, _&&_, and-false}
 use mathlib.Core.List.{List}
@@ -20,8 +20,8 @@ use Rattle.evex.specs.declared.Instruction.{Instruction}
 use Rattle.evex.proofs.Bounds.{bounds}
 use Rattle.machine.specs.State.{State, Stepped, registerAt}
 use Rattle.machine.specs.Memory.{on, needsOutside}
-use Rattle.machine.specs.Lanes.{gathered, laneOf, results, raisesUnmasked, Fill, computed, copied, zeroed, registerOr, upperFrom, fill}
-use Rattle.machine.specs.Lanes.{filled, newRegister, vectorsWith, vectorsAfter}
+use Rattle.machine.specs.Lanes.{gathered, laneOf, results, raisesUnmasked, Fill, computed, copied, zeroed, registerOr, upperFrom}
+use Rattle.machine.specs.Lanes.{fill, filled, newRegister, vectorsWith, vectorsAfter}
 use Rattle.machine.specs.Step.{stopped, completed, step}
 use Rattle.machine.specs.TwoRuns.{IsDecoded, SwitchesOn}
 use Rattle.machine.specs.VectorFile.{byteAt, FileAfter, VectorFile}

@@ -161,16 +161,17 @@ pub data Fill : Type 0 where
   copied : ℕ → Fill
   zeroed : Fill
 
--- R5.10: the register whose lanes 1 to 7 a scalar instruction leaves in its destination: the first source, or the destination itself where
--- that is an operand. (Each has a first source; were there none, the lanes would stay.)
+-- R5.10: the first source's register, or n where there is none
 abbrev pub registerOr : ℕ → Source → ℕ
 registerOr n source.None = n
 registerOr n (source.Register m) = m
 
+-- R5.10: where lanes 1 to 7 of a scalar instruction's destination come from: the first source, which each has, or the destination itself
+-- where that is an operand
 abbrev pub upperFrom : Instruction → ℕ
 upperFrom i = cond (i .shape .accumulates) (i .destination) (registerOr (i .destination) (i .first))
 
--- of the lanes of an instruction's destination: elements that are on, elements that are off, lanes 1 to 7 of a scalar one (R5.10), others
+-- of the lanes of an instruction's destination: an element that is on, one that is off, lanes 1 to 7 of a scalar instruction, all others
 unfoldable pub fill : State → Instruction → ℕ → Fill
 fill s i j =
     cond (on s i j) computed

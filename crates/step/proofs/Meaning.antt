@@ -1,6 +1,6 @@
 -- What the parts of a step compute is what the machine defines.
 -- Assumes nothing.
-use Prim.Native.Nat.{ℕ, _/_, _%_, _^_, _<_, _≤_}
+use Prim.Native.Nat.{ℕ, _/_, _%_, _^_, _<_}
 use mathlib.Core.Path.{_≡_, refl, sym, ap, _∙_}
 use mathlib.Core.Bool.{Bool, true, false, cond, not, _&&_, true≢false, false≢true}
 use mathlib.Core.List.{List}
@@ -26,8 +26,8 @@ use Rattle.machine.specs.declared.Element.{Element}
 use Rattle.machine.specs.State.{State, Stepped, registerAt, steppedOf}
 use Rattle.machine.specs.Memory.{isOn, on, nextPointer, located, outside, secondAt, needsOutside}
 use Rattle.machine.specs.Lanes.{Sources, raises, environmentOf, recorded, added, lanesOn, registerHalves, destinationHalves, firstHalves}
-use Rattle.machine.specs.Lanes.{secondHalves, gathered, elementAt, results, raised, raisesUnmasked, controlAfter, Fill, computed, copied, zeroed}
-use Rattle.machine.specs.Lanes.{upperFrom, fill, filled, newRegister, vectorsWith, vectorsAfter}
+use Rattle.machine.specs.Lanes.{secondHalves, gathered, elementAt, results, raised, raisesUnmasked, controlAfter, Fill, computed}
+use Rattle.machine.specs.Lanes.{copied, zeroed, upperFrom, fill, filled, newRegister, vectorsWith, vectorsAfter}
 use Rattle.machine.specs.Step.{refused, stopped, completed, step}
 use Rattle.machine.proofs.Ends.{refuses-memory, stops, completes}
 use Rattle.machine.proofs.OffLanes.{above-off}

@@ -1,5 +1,5 @@
 -- `step::store::lower_lanes` meets its contract: the loop fills sixteen bytes, and 0 stands behind them.
-use Prim.Native.Nat.{_+_, _-_, _≤_}
+use Prim.Native.Nat.{_+_, _-_}
 use mathlib.Core.Path.{refl, sym, _∙_}
 use mathlib.Core.Bool.{cond}
 use native.Mathlib.Nat.{le-trans}
