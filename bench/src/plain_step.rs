@@ -1,6 +1,9 @@
 //! A whole step with the same checks and answers as the library's, unproved and written for speed:
 //! lanes that are on are a 32-bit number, and a vector that lies whole in memory is copied at once.
-//! The operations are inlined: called, they took up to a sixth longer.
+//! The operations are inlined: called, they took up to a sixth longer. Scalar forms have a way of
+//! their own, past the 32 lanes.
+
+mod scalar;
 
 use crate::plain;
 use ridgecrook_tests::case::{Outcome, DE, IE, ZE};
@@ -26,19 +29,31 @@ fn carry_out(machine: &mut Machine, code: &[u8], memory: &[u8]) -> Result<u32, u
     }
     let fields = Fields::decode(code)?;
     let on = fields.on(machine);
-    let second = second_source(machine, &fields, on, code, memory)?;
-    let (results, flags) = compute(machine, &fields, on, &second);
-    if !fields.embedded {
-        let unmasked = !(machine.control >> 7) as u8;
-        let stops_early = flags & EARLY & unmasked != 0;
-        machine.control |= u32::from(if stops_early { flags & EARLY } else { flags });
-        if flags & unmasked != 0 {
-            return Err(8);
-        }
+    if fields.scalar {
+        scalar::carry_out(machine, &fields, on == 1, code, memory)?;
+    } else {
+        let second = second_source(machine, &fields, on, code, memory)?;
+        let (results, flags) = compute(machine, &fields, on, &second);
+        record(machine, &fields, flags)?;
+        write_destination(machine, &fields, on, &results);
     }
-    write_destination(machine, &fields, on, &results);
     machine.pointer = machine.pointer.wrapping_add(fields.length as u64);
     Ok(fields.length as u32)
+}
+
+/// Adds an instruction's flags to the control word.
+#[inline]
+fn record(machine: &mut Machine, fields: &Fields, flags: u8) -> Result<(), u32> {
+    if fields.embedded {
+        return Ok(());
+    }
+    let unmasked = !(machine.control >> 7) as u8;
+    let stops_early = flags & EARLY & unmasked != 0;
+    machine.control |= u32::from(if stops_early { flags & EARLY } else { flags });
+    if flags & unmasked != 0 {
+        return Err(8);
+    }
+    Ok(())
 }
 
 #[derive(Clone, Copy, PartialEq)]
@@ -55,11 +70,13 @@ enum Kind {
 
 struct Fields {
     kind: Kind,
+    scalar: bool,
     modrm: u8,
     byte_1: u8,
     byte_3: u8,
     first: usize,
     embedded: bool,
+    /// So many elements: 1 for a scalar form.
     lanes: usize,
     length: usize,
     /// Where a displacement begins, and how many bytes it has.
@@ -81,10 +98,11 @@ impl Fields {
         if byte_1 & 8 != 0 || byte_2 & 4 == 0 {
             return Err(5);
         }
-        let kind = listed(byte_1 & 7, byte_2 & 0x83, opcode).ok_or(4_u32)?;
+        let (kind, scalar) = listed(byte_1 & 7, byte_2 & 0x83, opcode).ok_or(4_u32)?;
         let first = usize::from(!byte_2 >> 3 & 15 | (!byte_3 & 8) << 1);
         let embedded = modrm >= 0xC0 && byte_3 & 0x10 != 0;
-        if is_reserved(byte_3, embedded) || kind == Kind::Root && first != 0 {
+        let needless_first = kind == Kind::Root && !scalar && first != 0;
+        if needless_first || is_reserved(byte_3, embedded, scalar) {
             return Err(5);
         }
         let displacement = displacement_place(code, modrm).ok_or(3_u32)?;
@@ -92,16 +110,15 @@ impl Fields {
         if code.len() < length {
             return Err(3);
         }
-        let of_length = 8 << (byte_3 >> 5 & 3);
-        let lanes = if embedded { LANES } else { of_length };
         Ok(Fields {
             kind,
+            scalar,
             modrm,
             byte_1,
             byte_3,
             first,
             embedded,
-            lanes,
+            lanes: lanes(byte_3, embedded, scalar),
             length,
             displacement,
         })
@@ -122,28 +139,57 @@ impl Fields {
         let low = self.modrm >> 3 & 7;
         usize::from(low | !self.byte_1 >> 4 & 8 | !self.byte_1 & 16)
     }
+
+    /// The second source, in register form.
+    #[inline]
+    fn second(&self) -> usize {
+        let high = !self.byte_1 >> 2 & 16 | !self.byte_1 >> 2 & 8;
+        usize::from(self.modrm & 7 | high)
+    }
+
+    /// The rounding mode, and whether underflow is unmasked.
+    #[inline]
+    fn rounding(&self, machine: &Machine) -> (u32, u32) {
+        if self.embedded {
+            (u32::from(self.byte_3 >> 5 & 3), 0)
+        } else {
+            (machine.control >> 13 & 3, !machine.control >> 11 & 1)
+        }
+    }
 }
 
-/// By map, W and prefix bits of byte 2, and opcode.
+/// By map, W and prefix bits of byte 2, and opcode; and whether it is scalar: of the first five the
+/// prefix says so, of the fused three the opcode's lowest bit.
 #[inline]
-fn listed(map: u8, prefix: u8, opcode: u8) -> Option<Kind> {
+fn listed(map: u8, prefix: u8, opcode: u8) -> Option<(Kind, bool)> {
     match (map, prefix, opcode) {
-        (5, 0, 0x58) => Some(Kind::Add),
-        (5, 0, 0x5C) => Some(Kind::Subtract),
-        (5, 0, 0x59) => Some(Kind::Multiply),
-        (5, 0, 0x5E) => Some(Kind::Divide),
-        (5, 0, 0x51) => Some(Kind::Root),
-        (6, 1, 0x98) => Some(Kind::Fused132),
-        (6, 1, 0xA8) => Some(Kind::Fused213),
-        (6, 1, 0xB8) => Some(Kind::Fused231),
+        (5, 0 | 2, 0x58) => Some((Kind::Add, prefix == 2)),
+        (5, 0 | 2, 0x5C) => Some((Kind::Subtract, prefix == 2)),
+        (5, 0 | 2, 0x59) => Some((Kind::Multiply, prefix == 2)),
+        (5, 0 | 2, 0x5E) => Some((Kind::Divide, prefix == 2)),
+        (5, 0 | 2, 0x51) => Some((Kind::Root, prefix == 2)),
+        (6, 1, 0x98 | 0x99) => Some((Kind::Fused132, opcode & 1 == 1)),
+        (6, 1, 0xA8 | 0xA9) => Some((Kind::Fused213, opcode & 1 == 1)),
+        (6, 1, 0xB8 | 0xB9) => Some((Kind::Fused231, opcode & 1 == 1)),
         _ => None,
     }
 }
 
-/// Length bits 11 without embedded rounding, or zeroing without a mask.
+/// Length bits 3 without embedded rounding, zeroing without a mask, or b with memory in a scalar
+/// form.
 #[inline]
-fn is_reserved(byte_3: u8, embedded: bool) -> bool {
-    byte_3 & 0x60 == 0x60 && !embedded || byte_3 & 0x87 == 0x80
+fn is_reserved(byte_3: u8, embedded: bool, scalar: bool) -> bool {
+    let by_form = byte_3 & 0x60 == 0x60 || scalar && byte_3 & 0x10 != 0;
+    by_form && !embedded || byte_3 & 0x87 == 0x80
+}
+
+#[inline]
+fn lanes(byte_3: u8, embedded: bool, scalar: bool) -> usize {
+    match (scalar, embedded) {
+        (true, _) => 1,
+        (false, true) => LANES,
+        (false, false) => 8 << (byte_3 >> 5 & 3),
+    }
 }
 
 /// None where the SIB byte is missing.
@@ -188,8 +234,7 @@ fn second_source(
     if fields.modrm < 0xC0 {
         return read_memory(memory, address(machine, fields, code), fields, on);
     }
-    let high = !fields.byte_1 >> 2 & 16 | !fields.byte_1 >> 2 & 8;
-    Ok(register(machine, usize::from(fields.modrm & 7 | high)))
+    Ok(register(machine, fields.second()))
 }
 
 #[inline]
@@ -255,14 +300,9 @@ fn read_memory(memory: &[u8], address: u64, fields: &Fields, on: u32) -> Result<
 
 #[inline]
 fn compute(machine: &Machine, fields: &Fields, on: u32, second: &Register) -> (Register, u8) {
-    let (mode, underflow) = if fields.embedded {
-        (u32::from(fields.byte_3 >> 5 & 3), 0)
-    } else {
-        (machine.control >> 13 & 3, !machine.control >> 11 & 1)
-    };
+    let (m, u) = fields.rounding(machine);
     let (s, d) = (second, register(machine, fields.destination()));
     let f = register(machine, fields.first);
-    let (m, u) = (mode, underflow);
     match fields.kind {
         Kind::Add => each(on, |j| plain::add(f[j], s[j], m, u)),
         Kind::Subtract => each(on, |j| plain::subtract(f[j], s[j], m, u)),
