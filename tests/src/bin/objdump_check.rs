@@ -5,7 +5,7 @@
 
 use ridgecrook_tests::compare::setting;
 use ridgecrook_tests::random_step::Steps;
-use ridgecrook_tests::second::encoding::{decode, Address, Base, Instruction, Second, Source};
+use ridgecrook_tests::second::encoding::{decode, Address, Base, Instruction, Second};
 use std::process::{exit, Command};
 
 const GENERAL: [&str; 16] = [
@@ -105,7 +105,7 @@ fn written(instruction: &Instruction) -> String {
     if instruction.zeroing {
         text += "{z}";
     }
-    if instruction.listed.operands.contains(&Source::First) {
+    if instruction.listed.takes_first() {
         text += &format!(",{}", register(instruction, instruction.first));
     }
     text += ",";
@@ -121,9 +121,10 @@ fn written(instruction: &Instruction) -> String {
     text
 }
 
+/// One element stands in an xmm register, whatever the length bits say.
 fn letter(instruction: &Instruction) -> char {
-    match instruction.lanes {
-        8 => 'x',
+    match instruction.elements {
+        1 | 8 => 'x',
         16 => 'y',
         _ => 'z',
     }
@@ -134,10 +135,10 @@ fn register(instruction: &Instruction, number: usize) -> String {
 }
 
 fn memory(instruction: &Instruction, address: &Address, broadcast: bool) -> String {
-    let size = if broadcast {
-        "WORD BCST".to_string()
-    } else {
-        format!("{}MMWORD PTR", letter(instruction).to_ascii_uppercase())
+    let size = match instruction.elements {
+        _ if broadcast => "WORD BCST".to_string(),
+        1 => "WORD PTR".to_string(),
+        _ => format!("{}MMWORD PTR", letter(instruction).to_ascii_uppercase()),
     };
     let base = match address.base {
         Base::None => None,
