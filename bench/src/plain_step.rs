@@ -1,7 +1,7 @@
 //! A whole step with the same checks and answers as the library's, unproved and written for speed:
 //! lanes that are on are a 32-bit number, and a vector that lies whole in memory is copied at once.
-//! The operations are inlined: called, they took up to a sixth longer. Scalar forms have a way of
-//! their own, past the 32 lanes.
+//! The operations are inlined: called, they took up to a sixth longer. Scalar forms part from the
+//! packed ones before anything is decoded: after it, each packed step took some nanoseconds longer.
 
 mod scalar;
 
@@ -14,31 +14,53 @@ const EARLY: u8 = IE | DE | ZE;
 type Register = [u16; LANES];
 
 pub fn step(machine: &mut Machine, code: &[u8], memory: &[u8]) -> Answer {
-    match carry_out(machine, code, memory) {
+    let done = if looks_scalar(code) {
+        scalar::carry_out(machine, code, memory)
+    } else {
+        carry_out(machine, code, memory)
+    };
+    match done {
         Ok(length) => Answer { number: 0, length },
         Err(number) => Answer { number, length: 0 },
     }
 }
 
+/// By the prefix F3, or an odd opcode after the prefix 66: no packed row has either.
+#[inline]
+fn looks_scalar(code: &[u8]) -> bool {
+    let Some([_, _, byte_2, _, opcode]) = code.first_chunk() else {
+        return false;
+    };
+    byte_2 & 3 == 2 || byte_2 & 3 == 1 && opcode & 1 == 1
+}
+
+#[inline]
 fn carry_out(machine: &mut Machine, code: &[u8], memory: &[u8]) -> Result<u32, u32> {
+    let fields = accepted::<false>(machine, code)?;
+    let on = fields.on(machine);
+    let second = second_source(machine, &fields, on, code, memory)?;
+    let (results, flags) = compute(machine, &fields, on, &second);
+    record(machine, &fields, flags)?;
+    write_destination(machine, &fields, on, &results);
+    Ok(advance(machine, &fields))
+}
+
+/// The fields, unless a refusal before 7 applies.
+#[inline]
+fn accepted<const SCALAR: bool>(machine: &Machine, code: &[u8]) -> Result<Fields, u32> {
     if machine.vectors.len() != VECTORS_SIZE {
         return Err(1);
     }
     if machine.control >> 16 != 0 {
         return Err(2);
     }
-    let fields = Fields::decode(code)?;
-    let on = fields.on(machine);
-    if fields.scalar {
-        scalar::carry_out(machine, &fields, on == 1, code, memory)?;
-    } else {
-        let second = second_source(machine, &fields, on, code, memory)?;
-        let (results, flags) = compute(machine, &fields, on, &second);
-        record(machine, &fields, flags)?;
-        write_destination(machine, &fields, on, &results);
-    }
+    Fields::decode::<SCALAR>(code)
+}
+
+#[inline]
+fn advance(machine: &mut Machine, fields: &Fields) -> u32 {
     machine.pointer = machine.pointer.wrapping_add(fields.length as u64);
-    Ok(fields.length as u32)
+    fields.length as u32
 }
 
 /// Adds an instruction's flags to the control word.
@@ -70,7 +92,6 @@ enum Kind {
 
 struct Fields {
     kind: Kind,
-    scalar: bool,
     modrm: u8,
     byte_1: u8,
     byte_3: u8,
@@ -85,7 +106,7 @@ struct Fields {
 
 impl Fields {
     #[inline]
-    fn decode(code: &[u8]) -> Result<Fields, u32> {
+    fn decode<const SCALAR: bool>(code: &[u8]) -> Result<Fields, u32> {
         let Some(&[byte_0, byte_1, byte_2, byte_3, opcode, modrm]) = code.first_chunk() else {
             return Err(match code.first() {
                 Some(0x62) | None => 3,
@@ -98,11 +119,11 @@ impl Fields {
         if byte_1 & 8 != 0 || byte_2 & 4 == 0 {
             return Err(5);
         }
-        let (kind, scalar) = listed(byte_1 & 7, byte_2 & 0x83, opcode).ok_or(4_u32)?;
+        let kind = listed::<SCALAR>(byte_1 & 7, byte_2 & 0x83, opcode).ok_or(4_u32)?;
         let first = usize::from(!byte_2 >> 3 & 15 | (!byte_3 & 8) << 1);
         let embedded = modrm >= 0xC0 && byte_3 & 0x10 != 0;
-        let needless_first = kind == Kind::Root && !scalar && first != 0;
-        if needless_first || is_reserved(byte_3, embedded, scalar) {
+        let needless_first = kind == Kind::Root && !SCALAR && first != 0;
+        if needless_first || is_reserved(byte_3, embedded, SCALAR) {
             return Err(5);
         }
         let displacement = displacement_place(code, modrm).ok_or(3_u32)?;
@@ -112,13 +133,12 @@ impl Fields {
         }
         Ok(Fields {
             kind,
-            scalar,
             modrm,
             byte_1,
             byte_3,
             first,
             embedded,
-            lanes: lanes(byte_3, embedded, scalar),
+            lanes: lanes(byte_3, embedded, SCALAR),
             length,
             displacement,
         })
@@ -158,19 +178,29 @@ impl Fields {
     }
 }
 
-/// By map, W and prefix bits of byte 2, and opcode; and whether it is scalar: of the first five the
-/// prefix says so, of the fused three the opcode's lowest bit.
+/// By map, W and prefix bits of byte 2, and opcode. A scalar row has F3 in the place of no prefix,
+/// or 1 in the place of the opcode's lowest bit.
 #[inline]
-fn listed(map: u8, prefix: u8, opcode: u8) -> Option<(Kind, bool)> {
-    match (map, prefix, opcode) {
-        (5, 0 | 2, 0x58) => Some((Kind::Add, prefix == 2)),
-        (5, 0 | 2, 0x5C) => Some((Kind::Subtract, prefix == 2)),
-        (5, 0 | 2, 0x59) => Some((Kind::Multiply, prefix == 2)),
-        (5, 0 | 2, 0x5E) => Some((Kind::Divide, prefix == 2)),
-        (5, 0 | 2, 0x51) => Some((Kind::Root, prefix == 2)),
-        (6, 1, 0x98 | 0x99) => Some((Kind::Fused132, opcode & 1 == 1)),
-        (6, 1, 0xA8 | 0xA9) => Some((Kind::Fused213, opcode & 1 == 1)),
-        (6, 1, 0xB8 | 0xB9) => Some((Kind::Fused231, opcode & 1 == 1)),
+fn listed<const SCALAR: bool>(map: u8, prefix: u8, opcode: u8) -> Option<Kind> {
+    let (none, odd) = if SCALAR { (2, 1) } else { (0, 0) };
+    match (map, opcode) {
+        (5, 0x58) if prefix == none => Some(Kind::Add),
+        (5, 0x5C) if prefix == none => Some(Kind::Subtract),
+        (5, 0x59) if prefix == none => Some(Kind::Multiply),
+        (5, 0x5E) if prefix == none => Some(Kind::Divide),
+        (5, 0x51) if prefix == none => Some(Kind::Root),
+        (6, _) if prefix == 1 => fused(opcode ^ odd),
+        _ => None,
+    }
+}
+
+/// By the packed row's opcode.
+#[inline]
+fn fused(opcode: u8) -> Option<Kind> {
+    match opcode {
+        0x98 => Some(Kind::Fused132),
+        0xA8 => Some(Kind::Fused213),
+        0xB8 => Some(Kind::Fused231),
         _ => None,
     }
 }

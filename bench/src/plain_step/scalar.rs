@@ -1,6 +1,6 @@
 //! Scalar forms: one half of each operand is read, and lanes 0 to 7 are written as one number.
 
-use super::{address, record, word, Fields, Kind};
+use super::{accepted, address, advance, record, word, Fields, Kind};
 use crate::plain;
 use ridgecrook_tests::case::Outcome;
 use ridgecrook_tests::machine::{Machine, REGISTER_SIZE};
@@ -8,15 +8,11 @@ use ridgecrook_tests::machine::{Machine, REGISTER_SIZE};
 /// The bytes of lanes 0 to 7; those behind them become 0.
 const LOW: usize = 16;
 
-/// All of the step but the pointer.
-#[inline]
-pub fn carry_out(
-    machine: &mut Machine,
-    fields: &Fields,
-    on: bool,
-    code: &[u8],
-    memory: &[u8],
-) -> Result<(), u32> {
+/// Not inlined, so that it takes nothing from the packed forms.
+#[inline(never)]
+pub fn carry_out(machine: &mut Machine, code: &[u8], memory: &[u8]) -> Result<u32, u32> {
+    let fields = &accepted::<true>(machine, code)?;
+    let on = fields.on(machine) == 1;
     let destination = fields.destination();
     let half = if on {
         let second = second_half(machine, fields, code, memory)?;
@@ -32,7 +28,7 @@ pub fn carry_out(
     let register = &mut machine.vectors[REGISTER_SIZE * destination..][..REGISTER_SIZE];
     register[..LOW].copy_from_slice(&(others | u128::from(half)).to_le_bytes());
     register[LOW..].fill(0);
-    Ok(())
+    Ok(advance(machine, fields))
 }
 
 /// The register whose lanes 1 to 7 the destination gets.
