@@ -9,7 +9,9 @@ use ridgecrook_tests::random_step::Steps;
 use ridgecrook_tests::second;
 use ridgecrook_tests::second::encoding::{decode, scalar_rows, Instruction, Source};
 
-const PROGRAMS: [(&str, fn(&Step) -> StepOutcome); 2] = [
+type Program = (&'static str, fn(&Step) -> StepOutcome);
+
+const PROGRAMS: [Program; 2] = [
     ("the second program", second::step),
     ("the library", library::step_outcome),
 ];
