@@ -9,12 +9,15 @@ use ridgecrook_tests::random_step::Steps;
 use ridgecrook_tests::second;
 use ridgecrook_tests::second::encoding::{decode, scalar_rows, Instruction, Source};
 
-const PROGRAMS: [(&str, fn(&Step) -> StepOutcome); 2] = [
+type Program = (&'static str, fn(&Step) -> StepOutcome);
+
+const PROGRAMS: [Program; 2] = [
     ("the second program", second::step),
     ("the library", library::step_outcome),
 ];
 
-/// A register form, one with embedded rounding, or a memory form at RAX.
+/// A register form, one with embedded rounding, or a memory form at RAX and a displacement of one
+/// byte.
 #[derive(Clone, Copy, PartialEq, Eq)]
 enum Form {
     Registers,
@@ -25,8 +28,8 @@ enum Form {
 const FORMS: [Form; 3] = [Form::Registers, Form::Embedded, Form::Memory];
 
 /// A step of a scalar row at some place among 8 rows, 3 forms and 3 maskings (none, merging,
-/// zeroing), with any registers, states and modes. Memory has 80 bytes; RAX is the first address
-/// and lies within 4 bytes of one of its ends.
+/// zeroing), with any registers, states and modes. Memory has 80 bytes, and the word lies at one of
+/// its ends or a few bytes from there, inside or outside.
 fn step_at(steps: &mut Steps, place: usize) -> Step {
     let (listed, form) = (&scalar_rows()[place % 8], FORMS[place / 8 % 3]);
     let masking = place / 24 % 3;
@@ -40,21 +43,32 @@ fn step_at(steps: &mut Steps, place: usize) -> Step {
         encoding.mask = random.within(1, 7) as u8;
         encoding.zeroing = u8::from(masking == 2);
     }
+    let (displacement, word) = (random.within(-3, 3), random.one_of(&WORDS));
     match form {
         Form::Registers => {}
         Form::Embedded => (encoding.extra, encoding.length) = (1, random.bits() as u8 & 3),
-        Form::Memory => (encoding.mode, encoding.rm, encoding.b) = (0, 0, 0),
+        Form::Memory => {
+            (encoding.mode, encoding.rm, encoding.b) = (1, 0, 0);
+            encoding.rest = vec![displacement as u8];
+        }
     }
     let mut step = Step {
         machine,
         code: encoding.bytes(),
         memory,
     };
-    step.machine.general[0] = match random.once_in(2) {
-        true => random.within(0, 4) as u64,
-        false => random.within(76, 80) as u64,
-    };
+    // R3.13: N is 2.
+    step.machine.general[0] = i64::from(word - 2 * displacement) as u64;
     step
+}
+
+/// Where words of a memory of 80 bytes begin.
+const WORDS: [i32; 10] = [-1, 0, 1, 2, 40, 76, 77, 78, 79, 80];
+
+/// Where the word of such a step begins.
+fn word_of(step: &Step) -> i64 {
+    let displacement = step.code.get(6).map_or(0, |&byte| i64::from(byte as i8));
+    step.machine.general[0] as i64 + 2 * displacement
 }
 
 /// The answers that steps got; 0, 7 and 8 are to be among them.
@@ -113,9 +127,9 @@ fn changed_elsewhere(steps: &mut Steps, step: &Step) -> Step {
             other.machine.set_lane(register, lane, half);
         }
     }
-    let word = step.machine.general[0] as usize;
+    let word = word_of(step);
     for (address, byte) in other.memory.iter_mut().enumerate() {
-        if address != word && address != word + 1 {
+        if !(word..word + 2).contains(&(address as i64)) {
             *byte ^= 0x7D;
         }
     }
