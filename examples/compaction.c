@@ -1,5 +1,5 @@
 /*
- * The compaction of a small log, as a database's engine does it. Each record has an embedding of 72 halves and a weight. A kernel of
+ * The compaction of a small log, as a database's engine does it. Each record has an embedding of 73 halves and a weight. A kernel of
  * AVX512-FP16 machine code scores it against a query; a record whose score repeats an earlier one is cut. Two processes that score one
  * record differently by a single bit would cut different records, so every view of the log must come to the same bits:
  *
@@ -18,12 +18,18 @@
 #include <string.h>
 #include <xmmintrin.h>
 
-/* The kernel: rax is the record's address, rbx its weight's; zmm1 to zmm3 hold the query; k1 is 0xFF, for the 8 lanes of the tail. */
+/*
+ * The kernel: rax is the record's address, rbx its weight's. zmm1 to zmm3 hold the query's halves 0 to 71, lane 0 of xmm4 holds the odd
+ * one, 72, and lanes 1 to 7 of xmm4 are 0; k1 is 0xFF, for the tail of 8. The odd half comes first, since a scalar instruction writes its
+ * whole destination (R5.10): lanes 1 to 7 as its first source has them, and 0 above. Here that starts the sums of all lanes; after
+ * the others it would wipe out lanes 8 to 31.
+ */
 static const uint8_t KERNEL[] = {
-    0x62, 0xF5, 0x74, 0x48, 0x59, 0x00,       /* vmulph      zmm0, zmm1, [rax]              lanes  0 to 31 */
-    0x62, 0xF6, 0x6D, 0x48, 0xB8, 0x40, 0x01, /* vfmadd231ph zmm0, zmm2, [rax + 64]         lanes 32 to 63 */
-    0x62, 0xF6, 0x65, 0x49, 0xB8, 0x40, 0x02, /* vfmadd231ph zmm0{k1}, zmm3, [rax + 128]    lanes 64 to 71 */
-    0x62, 0xF5, 0x7C, 0x58, 0x59, 0x03,       /* vmulph      zmm0, zmm0, word [rbx]{1to32}  by the weight  */
+    0x62, 0xF5, 0x5E, 0x08, 0x59, 0x40, 0x48, /* vmulsh      xmm0, xmm4, [rax + 144]        half 72         */
+    0x62, 0xF6, 0x75, 0x48, 0xB8, 0x00,       /* vfmadd231ph zmm0, zmm1, [rax]              halves 0 to 31  */
+    0x62, 0xF6, 0x6D, 0x48, 0xB8, 0x40, 0x01, /* vfmadd231ph zmm0, zmm2, [rax + 64]         halves 32 to 63 */
+    0x62, 0xF6, 0x65, 0x49, 0xB8, 0x40, 0x02, /* vfmadd231ph zmm0{k1}, zmm3, [rax + 128]    halves 64 to 71 */
+    0x62, 0xF5, 0x7C, 0x58, 0x59, 0x03,       /* vmulph      zmm0, zmm0, word [rbx]{1to32}  by the weight   */
 };
 
 /* The same, by its offsets, to print. */
@@ -31,15 +37,16 @@ static const struct {
     size_t offset;
     const char *text;
 } LISTING[] = {
-    {0, "vmulph zmm0, zmm1, [rax]"},
-    {6, "vfmadd231ph zmm0, zmm2, [rax + 64]"},
-    {13, "vfmadd231ph zmm0{k1}, zmm3, [rax + 128]"},
-    {20, "vmulph zmm0, zmm0, word [rbx]{1to32}"},
+    {0, "vmulsh xmm0, xmm4, [rax + 144]"},
+    {7, "vfmadd231ph zmm0, zmm1, [rax]"},
+    {13, "vfmadd231ph zmm0, zmm2, [rax + 64]"},
+    {20, "vfmadd231ph zmm0{k1}, zmm3, [rax + 128]"},
+    {27, "vmulph zmm0, zmm0, word [rbx]{1to32}"},
 };
 
 enum {
     RECORDS = 24,
-    HALVES = 72,                    /* of an embedding: two whole registers and a tail of 8 */
+    HALVES = 73,                    /* of an embedding: two whole registers, a tail of 8 and an odd one */
     RECORD_SIZE = 2 * HALVES + 2,   /* with the weight behind it */
     LOG_SIZE = RECORDS * RECORD_SIZE,
     REGISTER_SIZE = 64,
@@ -87,7 +94,7 @@ static void put_half(uint8_t *at, uint16_t half) {
     at[1] = (uint8_t)(half >> 8);
 }
 
-/* Some records repeat an earlier one, and must be cut. */
+/* The query fills three registers, with zeros behind its last half. Some records repeat an earlier one, and must be cut. */
 static void make_log(uint8_t *log, uint8_t *query) {
     for (size_t i = 0; i < 3 * REGISTER_SIZE; i += 2) {
         put_half(query + i, i < 2 * HALVES ? random_half() : 0);
@@ -105,13 +112,14 @@ static void make_log(uint8_t *log, uint8_t *query) {
 
 /* ---- views A and B: the interpreter */
 
-/* The query in zmm1 to zmm3, k1 for the tail; `rest` is what stands in every byte that the kernel does not read. */
+/* The query in zmm1 to zmm3 and xmm4, k1 for the tail; `rest` is what stands in every byte that the kernel does not read. */
 static void set_up(machine *m, const uint8_t *query, size_t record, uint32_t control, uint8_t rest) {
     memset(m->vectors, rest, sizeof m->vectors);
     memset(m->masks, rest, sizeof m->masks);
     memset(m->general, rest, sizeof m->general);
     memcpy(m->vectors + REGISTER_SIZE, query, 2 * REGISTER_SIZE);
     memcpy(m->vectors + 3 * REGISTER_SIZE, query + 2 * REGISTER_SIZE, 16);
+    memcpy(m->vectors + 4 * REGISTER_SIZE, query + 2 * REGISTER_SIZE + 16, 16);
     m->masks[1] = 0xFF;
     m->general[RAX] = record * RECORD_SIZE;
     m->general[RBX] = record * RECORD_SIZE + 2 * HALVES;
@@ -166,8 +174,9 @@ static bool processor_has_fp16(void) {
 }
 
 /*
- * The kernel's own bytes, executed. gcc lets k1 be named as written only where the target has mask registers; so this function has them,
- * and may be called only after processor_has_fp16 said yes. vzeroupper clears the upper parts of xmm0 to xmm15, whatever holds them.
+ * The kernel's own bytes, executed, with the query's halves in zmm0 too: nothing of them may be left. gcc lets k1 be named as written
+ * only where the target has mask registers; so this function has them, and may be called only after processor_has_fp16 said yes.
+ * vzeroupper clears the upper parts of xmm0 to xmm15, whatever holds them.
  */
 __attribute__((target("avx512f")))
 static bool view_c(const uint8_t *log, const uint8_t *query, size_t record, score *out) {
@@ -175,11 +184,14 @@ static bool view_c(const uint8_t *log, const uint8_t *query, size_t record, scor
     uint64_t tail = 0xFF;
     unsigned before = _mm_getcsr();
     _mm_setcsr(ALL_MASKED);
-    __asm__ volatile("vmovups   (%[query]), %%zmm1\n\t"
+    __asm__ volatile("vmovups   (%[query]), %%zmm0\n\t"
+                     "vmovups   (%[query]), %%zmm1\n\t"
                      "vmovups 64(%[query]), %%zmm2\n\t"
                      "vmovups 128(%[query]), %%zmm3\n\t"
+                     "vmovups 144(%[query]), %%xmm4\n\t"
                      "kmovq %[tail], %%k1\n\t"
-                     ".byte 0x62, 0xF5, 0x74, 0x48, 0x59, 0x00\n\t"
+                     ".byte 0x62, 0xF5, 0x5E, 0x08, 0x59, 0x40, 0x48\n\t"
+                     ".byte 0x62, 0xF6, 0x75, 0x48, 0xB8, 0x00\n\t"
                      ".byte 0x62, 0xF6, 0x6D, 0x48, 0xB8, 0x40, 0x01\n\t"
                      ".byte 0x62, 0xF6, 0x65, 0x49, 0xB8, 0x40, 0x02\n\t"
                      ".byte 0x62, 0xF5, 0x7C, 0x58, 0x59, 0x03\n\t"

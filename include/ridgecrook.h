@@ -142,7 +142,8 @@ typedef struct {
 
 /*
  * Carries out one instruction, the one that `code` begins with: a packed VADDPH, VSUBPH, VMULPH,
- * VDIVPH, VSQRTPH, VFMADD132PH, VFMADD213PH or VFMADD231PH, with registers or memory, in 64-bit
+ * VDIVPH, VSQRTPH, VFMADD132PH, VFMADD213PH or VFMADD231PH, or a scalar VADDSH, VSUBSH, VMULSH,
+ * VDIVSH, VSQRTSH, VFMADD132SH, VFMADD213SH or VFMADD231SH, with registers or memory, in 64-bit
  * mode (R2.1).
  *
  *   vectors, vectors_length  The vector file: the 32 registers in rising order, each with its 32
@@ -167,6 +168,9 @@ typedef struct {
  *
  *   RIDGECROOK_DONE       The destination register is written: lanes that are off keep their half,
  *                         or become 0 with zeroing; what lies above the vector becomes 0 (R5.9).
+ *                         A scalar instruction has only lane 0 to compute, by bit 0 of the mask;
+ *                         whether that is on or off, lanes 1 to 7 become the first source's (the
+ *                         three fused keep the destination's) and lanes 8 to 31 become 0 (R5.10).
  *                         The flags that lanes that are on raise are set in *control, except under
  *                         embedded rounding (R7.2, R7.5). *pointer has grown by the length, and
  *                         wraps at 2 to the 64 (R4.15). All else is as it was.
@@ -188,8 +192,8 @@ typedef struct {
  *    3  less than six bytes
  *    5  a fixed bit of the prefix is wrong: 1 in bit 3 of byte 1, or 0 in bit 2 of byte 2
  *    4  an instruction that is not named above
- *    5  length bits 3 without embedded rounding, zeroing without a mask, or VSQRTPH with bits for a
- *       first source
+ *    5  length bits 3 without embedded rounding, zeroing without a mask, VSQRTPH with bits for a
+ *       first source, or a scalar instruction with memory and the bit b (R4.10)
  *    3  the SIB byte or a byte of the displacement is not there
  *    7  a byte outside memory is needed
  *    8  an unmasked exception

@@ -1,6 +1,9 @@
 //! A whole step with the same checks and answers as the library's, unproved and written for speed:
 //! lanes that are on are a 32-bit number, and a vector that lies whole in memory is copied at once.
-//! The operations are inlined: called, they took up to a sixth longer.
+//! The operations are inlined: called, they took up to a sixth longer. Scalar forms part from the
+//! packed ones before anything is decoded: after it, each packed step took some nanoseconds longer.
+
+mod scalar;
 
 use crate::plain;
 use ridgecrook_tests::case::{Outcome, DE, IE, ZE};
@@ -11,34 +14,68 @@ const EARLY: u8 = IE | DE | ZE;
 type Register = [u16; LANES];
 
 pub fn step(machine: &mut Machine, code: &[u8], memory: &[u8]) -> Answer {
-    match carry_out(machine, code, memory) {
+    let done = if looks_scalar(code) {
+        scalar::carry_out(machine, code, memory)
+    } else {
+        carry_out(machine, code, memory)
+    };
+    match done {
         Ok(length) => Answer { number: 0, length },
         Err(number) => Answer { number, length: 0 },
     }
 }
 
+/// By the prefix F3, or an odd opcode after the prefix 66: no packed row has either.
+#[inline]
+fn looks_scalar(code: &[u8]) -> bool {
+    let Some([_, _, byte_2, _, opcode]) = code.first_chunk() else {
+        return false;
+    };
+    byte_2 & 3 == 2 || byte_2 & 3 == 1 && opcode & 1 == 1
+}
+
+#[inline]
 fn carry_out(machine: &mut Machine, code: &[u8], memory: &[u8]) -> Result<u32, u32> {
+    let fields = accepted::<false>(machine, code)?;
+    let on = fields.on(machine);
+    let second = second_source(machine, &fields, on, code, memory)?;
+    let (results, flags) = compute(machine, &fields, on, &second);
+    record(machine, &fields, flags)?;
+    write_destination(machine, &fields, on, &results);
+    Ok(advance(machine, &fields))
+}
+
+/// The fields, unless a refusal before 7 applies.
+#[inline]
+fn accepted<const SCALAR: bool>(machine: &Machine, code: &[u8]) -> Result<Fields, u32> {
     if machine.vectors.len() != VECTORS_SIZE {
         return Err(1);
     }
     if machine.control >> 16 != 0 {
         return Err(2);
     }
-    let fields = Fields::decode(code)?;
-    let on = fields.on(machine);
-    let second = second_source(machine, &fields, on, code, memory)?;
-    let (results, flags) = compute(machine, &fields, on, &second);
-    if !fields.embedded {
-        let unmasked = !(machine.control >> 7) as u8;
-        let stops_early = flags & EARLY & unmasked != 0;
-        machine.control |= u32::from(if stops_early { flags & EARLY } else { flags });
-        if flags & unmasked != 0 {
-            return Err(8);
-        }
-    }
-    write_destination(machine, &fields, on, &results);
+    Fields::decode::<SCALAR>(code)
+}
+
+#[inline]
+fn advance(machine: &mut Machine, fields: &Fields) -> u32 {
     machine.pointer = machine.pointer.wrapping_add(fields.length as u64);
-    Ok(fields.length as u32)
+    fields.length as u32
+}
+
+/// Adds an instruction's flags to the control word.
+#[inline]
+fn record(machine: &mut Machine, fields: &Fields, flags: u8) -> Result<(), u32> {
+    if fields.embedded {
+        return Ok(());
+    }
+    let unmasked = !(machine.control >> 7) as u8;
+    let stops_early = flags & EARLY & unmasked != 0;
+    machine.control |= u32::from(if stops_early { flags & EARLY } else { flags });
+    if flags & unmasked != 0 {
+        return Err(8);
+    }
+    Ok(())
 }
 
 #[derive(Clone, Copy, PartialEq)]
@@ -60,6 +97,7 @@ struct Fields {
     byte_3: u8,
     first: usize,
     embedded: bool,
+    /// So many elements: 1 for a scalar form.
     lanes: usize,
     length: usize,
     /// Where a displacement begins, and how many bytes it has.
@@ -68,7 +106,7 @@ struct Fields {
 
 impl Fields {
     #[inline]
-    fn decode(code: &[u8]) -> Result<Fields, u32> {
+    fn decode<const SCALAR: bool>(code: &[u8]) -> Result<Fields, u32> {
         let Some(&[byte_0, byte_1, byte_2, byte_3, opcode, modrm]) = code.first_chunk() else {
             return Err(match code.first() {
                 Some(0x62) | None => 3,
@@ -81,10 +119,11 @@ impl Fields {
         if byte_1 & 8 != 0 || byte_2 & 4 == 0 {
             return Err(5);
         }
-        let kind = listed(byte_1 & 7, byte_2 & 0x83, opcode).ok_or(4_u32)?;
+        let kind = listed::<SCALAR>(byte_1 & 7, byte_2 & 0x83, opcode).ok_or(4_u32)?;
         let first = usize::from(!byte_2 >> 3 & 15 | (!byte_3 & 8) << 1);
         let embedded = modrm >= 0xC0 && byte_3 & 0x10 != 0;
-        if is_reserved(byte_3, embedded) || kind == Kind::Root && first != 0 {
+        let needless_first = kind == Kind::Root && !SCALAR && first != 0;
+        if needless_first || is_reserved(byte_3, embedded, SCALAR) {
             return Err(5);
         }
         let displacement = displacement_place(code, modrm).ok_or(3_u32)?;
@@ -92,8 +131,6 @@ impl Fields {
         if code.len() < length {
             return Err(3);
         }
-        let of_length = 8 << (byte_3 >> 5 & 3);
-        let lanes = if embedded { LANES } else { of_length };
         Ok(Fields {
             kind,
             modrm,
@@ -101,7 +138,7 @@ impl Fields {
             byte_3,
             first,
             embedded,
-            lanes,
+            lanes: lanes(byte_3, embedded, SCALAR),
             length,
             displacement,
         })
@@ -122,28 +159,67 @@ impl Fields {
         let low = self.modrm >> 3 & 7;
         usize::from(low | !self.byte_1 >> 4 & 8 | !self.byte_1 & 16)
     }
+
+    /// The second source, in register form.
+    #[inline]
+    fn second(&self) -> usize {
+        let high = !self.byte_1 >> 2 & 16 | !self.byte_1 >> 2 & 8;
+        usize::from(self.modrm & 7 | high)
+    }
+
+    /// The rounding mode, and whether underflow is unmasked.
+    #[inline]
+    fn rounding(&self, machine: &Machine) -> (u32, u32) {
+        if self.embedded {
+            (u32::from(self.byte_3 >> 5 & 3), 0)
+        } else {
+            (machine.control >> 13 & 3, !machine.control >> 11 & 1)
+        }
+    }
 }
 
-/// By map, W and prefix bits of byte 2, and opcode.
+/// By map, W and prefix bits of byte 2, and opcode. A scalar row has F3 in the place of no prefix,
+/// or 1 in the place of the opcode's lowest bit.
 #[inline]
-fn listed(map: u8, prefix: u8, opcode: u8) -> Option<Kind> {
-    match (map, prefix, opcode) {
-        (5, 0, 0x58) => Some(Kind::Add),
-        (5, 0, 0x5C) => Some(Kind::Subtract),
-        (5, 0, 0x59) => Some(Kind::Multiply),
-        (5, 0, 0x5E) => Some(Kind::Divide),
-        (5, 0, 0x51) => Some(Kind::Root),
-        (6, 1, 0x98) => Some(Kind::Fused132),
-        (6, 1, 0xA8) => Some(Kind::Fused213),
-        (6, 1, 0xB8) => Some(Kind::Fused231),
+fn listed<const SCALAR: bool>(map: u8, prefix: u8, opcode: u8) -> Option<Kind> {
+    let (none, odd) = if SCALAR { (2, 1) } else { (0, 0) };
+    match (map, opcode) {
+        (5, 0x58) if prefix == none => Some(Kind::Add),
+        (5, 0x5C) if prefix == none => Some(Kind::Subtract),
+        (5, 0x59) if prefix == none => Some(Kind::Multiply),
+        (5, 0x5E) if prefix == none => Some(Kind::Divide),
+        (5, 0x51) if prefix == none => Some(Kind::Root),
+        (6, _) if prefix == 1 => fused(opcode ^ odd),
         _ => None,
     }
 }
 
-/// Length bits 11 without embedded rounding, or zeroing without a mask.
+/// By the packed row's opcode.
 #[inline]
-fn is_reserved(byte_3: u8, embedded: bool) -> bool {
-    byte_3 & 0x60 == 0x60 && !embedded || byte_3 & 0x87 == 0x80
+fn fused(opcode: u8) -> Option<Kind> {
+    match opcode {
+        0x98 => Some(Kind::Fused132),
+        0xA8 => Some(Kind::Fused213),
+        0xB8 => Some(Kind::Fused231),
+        _ => None,
+    }
+}
+
+/// Length bits 3 without embedded rounding, zeroing without a mask, or b with memory in a scalar
+/// form.
+#[inline]
+fn is_reserved(byte_3: u8, embedded: bool, scalar: bool) -> bool {
+    let by_form = byte_3 & 0x60 == 0x60 || scalar && byte_3 & 0x10 != 0;
+    by_form && !embedded || byte_3 & 0x87 == 0x80
+}
+
+#[inline]
+fn lanes(byte_3: u8, embedded: bool, scalar: bool) -> usize {
+    match (scalar, embedded) {
+        (true, _) => 1,
+        (false, true) => LANES,
+        (false, false) => 8 << (byte_3 >> 5 & 3),
+    }
 }
 
 /// None where the SIB byte is missing.
@@ -188,8 +264,7 @@ fn second_source(
     if fields.modrm < 0xC0 {
         return read_memory(memory, address(machine, fields, code), fields, on);
     }
-    let high = !fields.byte_1 >> 2 & 16 | !fields.byte_1 >> 2 & 8;
-    Ok(register(machine, usize::from(fields.modrm & 7 | high)))
+    Ok(register(machine, fields.second()))
 }
 
 #[inline]
@@ -255,14 +330,9 @@ fn read_memory(memory: &[u8], address: u64, fields: &Fields, on: u32) -> Result<
 
 #[inline]
 fn compute(machine: &Machine, fields: &Fields, on: u32, second: &Register) -> (Register, u8) {
-    let (mode, underflow) = if fields.embedded {
-        (u32::from(fields.byte_3 >> 5 & 3), 0)
-    } else {
-        (machine.control >> 13 & 3, !machine.control >> 11 & 1)
-    };
+    let (m, u) = fields.rounding(machine);
     let (s, d) = (second, register(machine, fields.destination()));
     let f = register(machine, fields.first);
-    let (m, u) = (mode, underflow);
     match fields.kind {
         Kind::Add => each(on, |j| plain::add(f[j], s[j], m, u)),
         Kind::Subtract => each(on, |j| plain::subtract(f[j], s[j], m, u)),

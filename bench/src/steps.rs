@@ -1,5 +1,5 @@
-//! The rows of steps: each instruction with 32 lanes, and how the time goes with the lanes that are
-//! on.
+//! The rows of steps: each packed instruction with 32 lanes, how the time goes with the lanes that
+//! are on, and each scalar instruction.
 
 use crate::{tame, time, Row, Timed};
 use ridgecrook_bench::plain_step;
@@ -7,7 +7,7 @@ use ridgecrook_tests::assemble::{Encoding, LANES_16, LANES_32, LANES_8};
 use ridgecrook_tests::library;
 use ridgecrook_tests::machine::{Answer, Machine, ALL_MASKED, REGISTER_SIZE};
 use ridgecrook_tests::random::Random;
-use ridgecrook_tests::second::encoding::{Listed, LIST};
+use ridgecrook_tests::second::encoding::{Listed, LIST, PACKED};
 
 /// A million steps of each row in all rounds together.
 const STEPS: usize = 1_000_000;
@@ -79,7 +79,7 @@ impl Work {
         let mut codes = Vec::new();
         for _ in 0..CODES {
             let [first, second] = [0; 2].map(|_| random.within(1, 31) as u8);
-            let first = if listed.operands.len() > 1 { first } else { 0 };
+            let first = if listed.takes_first() { first } else { 0 };
             let mut encoding = Encoding::registers(listed, 0, first, second);
             (kind.change)(&mut encoding);
             codes.push(encoding.bytes());
@@ -119,7 +119,7 @@ impl Work {
     }
 }
 
-/// How a row's instructions differ from a register form with 32 lanes.
+/// How a row's instructions differ from a register form with the length bits of 32 lanes.
 struct Kind {
     name: &'static str,
     /// Mask register k1.
@@ -197,23 +197,52 @@ const LANES_ON: [Kind; 10] = [
     }),
 ];
 
-pub fn rows(rounds: usize) -> Vec<Row> {
-    let calls = STEPS.div_ceil(rounds);
+/// Scalar instructions, with the length bits that assemblers give them.
+const SCALAR: Kind = changed("lane 0", |e| e.length = LANES_8);
+
+/// What else is timed of one of them.
+const SCALAR_FORMS: [Kind; 2] = [
+    changed("lane 0, memory", |e| {
+        from_memory(e);
+        e.length = LANES_8;
+    }),
+    Kind {
+        name: "lane 0 off",
+        // Every bit but the one that is read.
+        mask: !1,
+        memory_end: None,
+        change: |e| (e.mask, e.length) = (1, LANES_8),
+    },
+];
+
+/// Each instruction on random lanes and on tame ones.
+fn each(listed: &[Listed], kind: &Kind, calls: usize) -> Vec<Row> {
     let mut rows = Vec::new();
-    for listed in &LIST {
+    for listed in listed {
         let is_root = listed.operands.len() == 1;
         let as_embeddings = if is_root {
             Lanes::TamePositive
         } else {
             Lanes::Tame
         };
-        rows.push(row(listed, Lanes::Random, &WHOLE, calls));
-        rows.push(row(listed, as_embeddings, &WHOLE, calls));
+        rows.push(row(listed, Lanes::Random, kind, calls));
+        rows.push(row(listed, as_embeddings, kind, calls));
     }
-    let multiply = &LIST[1];
-    for kind in &LANES_ON {
-        rows.push(row(multiply, Lanes::Random, kind, calls));
-        rows.push(row(multiply, Lanes::Tame, kind, calls));
-    }
+    rows
+}
+
+/// One instruction in several forms, in the same way.
+fn forms(listed: &Listed, kinds: &[Kind], calls: usize) -> Vec<Row> {
+    let both = |kind| [Lanes::Random, Lanes::Tame].map(|lanes| row(listed, lanes, kind, calls));
+    kinds.iter().flat_map(both).collect()
+}
+
+pub fn rows(rounds: usize) -> Vec<Row> {
+    let calls = STEPS.div_ceil(rounds);
+    let (packed, scalar) = LIST.split_at(PACKED);
+    let mut rows = each(packed, &WHOLE, calls);
+    rows.extend(forms(&packed[1], &LANES_ON, calls));
+    rows.extend(each(scalar, &SCALAR, calls));
+    rows.extend(forms(&scalar[1], &SCALAR_FORMS, calls));
     rows
 }

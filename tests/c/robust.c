@@ -1,8 +1,9 @@
 /*
  * Steps, saves and loads on random bytes and states, with every lent buffer against the end or the
  * beginning of pages that may be touched (R8.4): one byte beyond, and the program stops. After each
- * call it is checked that the answer is one that the header names and that a refusal left all as it
- * was; what a step is to compute, other tests know.
+ * call it is checked that the answer is one that the header names, that a refusal left all as it
+ * was, and that a step wrote nowhere but to its destination; what it is to compute, other tests
+ * know.
  *
  *   robust [STEPS [SEED]]     1,000,000 steps if nothing is said
  */
@@ -84,21 +85,31 @@ static lent place(const pages in[8]) {
     return all;
 }
 
-/* Three in four begin like an instruction of the list, with one bit in a hundred or so wrong. */
+/* Three in four begin like an instruction of the list, one in eight of them with a wrong bit. */
 static void fill_code(uint8_t *code, size_t length) {
-    static const uint8_t rows[8][3] = {{0xF5, 0x74, 0x58}, {0xF5, 0x74, 0x59}, {0xF5, 0x74, 0x5C},
-                                       {0xF5, 0x74, 0x5E}, {0xF5, 0x7C, 0x51}, {0xF6, 0x75, 0x98},
-                                       {0xF6, 0x75, 0xA8}, {0xF6, 0x75, 0xB8}};
+    static const struct {
+        uint8_t map, prefix, opcode;
+    } rows[] = {
+        {5, 0, 0x58}, {5, 0, 0x59}, {5, 0, 0x5C}, {5, 0, 0x5E}, {5, 0, 0x51}, {6, 1, 0x98},
+        {6, 1, 0xA8}, {6, 1, 0xB8}, {5, 2, 0x58}, {5, 2, 0x59}, {5, 2, 0x5C}, {5, 2, 0x5E},
+        {5, 2, 0x51}, {6, 1, 0x99}, {6, 1, 0xA9}, {6, 1, 0xB9},
+    };
     fill(code, length);
     if (length < 6 || bits() % 4 == 0) {
         return;
     }
-    const uint8_t *row = rows[below(8)];
+    size_t row = below(sizeof rows / sizeof rows[0]);
     code[0] = 0x62;
-    code[1] = (uint8_t)((code[1] & 0xF0) | (row[0] & 0x0F));
-    code[2] = (uint8_t)((code[2] & (row[2] == 0x51 ? 0 : 0x78)) | row[1]);
-    code[3] = (uint8_t)((code[3] & 0x7F) | (row[2] == 0x51 ? 8 : 0));
-    code[4] = row[2];
+    code[1] = (uint8_t)((code[1] & 0xF0) | rows[row].map);
+    code[2] = (uint8_t)((code[2] & 0x78) | 4 | rows[row].prefix);
+    if (rows[row].prefix == 0 && rows[row].opcode == 0x51) { /* no first source */
+        code[2] |= 0x78;
+        code[3] |= 0x08;
+    }
+    if ((code[3] & 7) == 0) { /* no zeroing without a mask */
+        code[3] &= 0x7F;
+    }
+    code[4] = rows[row].opcode;
     if (bits() % 8 == 0) {
         code[below(6)] ^= (uint8_t)(1 << below(8));
     }
@@ -153,8 +164,28 @@ static int all_stays(const copy *kept, const lent *all) {
            kept->pointer == *all->pointer && kept->control == *all->control;
 }
 
-/* Whether a step answered and left what the header allows; counts the answers. */
-static int step_is_right(const lent *all, copy *kept, uint64_t answers[11]) {
+/* Of code that was carried out: prefix F3 is scalar, and of the fused the odd opcodes (R2.1). */
+static int is_scalar(const uint8_t *code) {
+    return (code[2] & 3) == 2 || ((code[2] & 3) == 1 && (code[4] & 1) == 1);
+}
+
+/* Only the destination register is written (R5.9); a scalar form clears lanes 8 to 31 (R5.10). */
+static int destination_is_right(const copy *kept, const lent *all) {
+    static const uint8_t zeros[48];
+    unsigned high = ~(unsigned)all->code[1];
+    size_t number = (all->code[5] >> 3 & 7) | (high >> 4 & 8) | (high & 16);
+    size_t at = RIDGECROOK_REGISTER_SIZE * number, end = at + RIDGECROOK_REGISTER_SIZE;
+    return memcmp(kept->vectors, all->vectors, at) == 0 &&
+           memcmp(kept->vectors + end, all->vectors + end, all->vectors_length - end) == 0 &&
+           (!is_scalar(all->code) || memcmp(all->vectors + at + 16, zeros, 48) == 0);
+}
+
+typedef struct {
+    uint64_t answers[11], scalar; /* scalar instructions that were carried out */
+} counts;
+
+/* Whether a step answered and left what the header allows; counts it. */
+static int step_is_right(const lent *all, copy *kept, counts *seen) {
     keep(kept, all);
     ridgecrook_answer answer = ridgecrook_step(
         all->vectors, all->vectors_length, all->masks, all->general, all->control, all->pointer,
@@ -162,13 +193,14 @@ static int step_is_right(const lent *all, copy *kept, uint64_t answers[11]) {
     if (answer.number > RIDGECROOK_EXCEPTION || answer.number == RIDGECROOK_TOO_LONG) {
         return 0;
     }
-    answers[answer.number]++;
+    seen->answers[answer.number]++;
     int flags_added = (*all->control & ~63u) == (kept->control & ~63u) &&
                       (*all->control & kept->control) == kept->control;
     if (answer.number == RIDGECROOK_DONE) {
+        seen->scalar += (uint64_t)is_scalar(all->code);
         return answer.length >= 6 && answer.length <= 11 && answer.length <= all->code_length &&
                *all->pointer == kept->pointer + answer.length && registers_stay(kept, all) &&
-               flags_added;
+               flags_added && destination_is_right(kept, all);
     }
     if (answer.number == RIDGECROOK_EXCEPTION) {
         kept->control = *all->control;
@@ -199,20 +231,20 @@ static int transfer_is_right(const lent *all, copy *kept) {
 }
 
 /* How many calls went wrong; the first of them are printed by their number. */
-static uint64_t run(uint64_t steps, uint64_t answers[11]) {
-    static const size_t counts[8] = {1, 1, MEMORY_MOST / PAGE, 1, 1, 1, 1, 1};
+static uint64_t run(uint64_t steps, counts *seen) {
+    static const size_t sizes[8] = {1, 1, MEMORY_MOST / PAGE, 1, 1, 1, 1, 1};
     static copy kept;
     pages in[8];
     uint64_t wrong = 0;
     for (size_t i = 0; i < 8; i++) {
-        in[i] = new_pages(counts[i]);
+        in[i] = new_pages(sizes[i]);
     }
     fill(in[2].end - in[2].size, in[2].size);
     for (uint64_t step = 0; step < steps; step++) {
         lent all = place(in);
         fill_code(all.code, all.code_length);
         fill_state(&all);
-        int right = step_is_right(&all, &kept, answers);
+        int right = step_is_right(&all, &kept, seen);
         if (step % 16 == 0) {
             right &= transfer_is_right(&all, &kept);
         }
@@ -226,14 +258,15 @@ static uint64_t run(uint64_t steps, uint64_t answers[11]) {
 int main(int count, char **arguments) {
     uint64_t steps = count > 1 ? strtoull(arguments[1], NULL, 10) : 1000000;
     state = count > 2 ? strtoull(arguments[2], NULL, 10) : 20240304;
-    uint64_t answers[11] = {0};
+    counts seen = {{0}, 0};
     printf("%" PRIu64 " steps, seed %" PRIu64 "\n", steps, state);
-    uint64_t wrong = run(steps, answers);
+    uint64_t wrong = run(steps, &seen);
     printf("answers 0 to 8:");
     for (size_t i = 0; i <= 8; i++) {
-        printf(" %" PRIu64, answers[i]);
+        printf(" %" PRIu64, seen.answers[i]);
     }
-    printf("\n");
-    check(wrong == 0 && answers[0] > 0, "every call answered and left what the header says");
+    printf("; scalar and done: %" PRIu64 "\n", seen.scalar);
+    int reached = seen.scalar > 0 && seen.answers[0] > seen.scalar;
+    check(wrong == 0 && reached, "every call answered and left what the header says");
     return finish();
 }

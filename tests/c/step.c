@@ -181,6 +181,145 @@ static void check_memory(void) {
     check(is(step(&m, ADD_MEMORY, 6, memory, 1), RIDGECROOK_DONE, 6), "1 byte, mask 0");
 }
 
+/* Scalar instructions on zmm0, zmm1 and zmm2, by their bytes 1, 2 and 4 (R2.1). */
+typedef struct {
+    uint8_t byte_1, byte_2, opcode;
+    uint16_t half; /* of 3 in the destination, 9 in the first source and 4 in the second */
+    int upper;     /* the register that gives lanes 1 to 7 */
+    const char *what;
+} scalar;
+
+static const scalar SCALARS[] = {
+    {0xF5, 0x76, 0x58, 0x4A80, 1, "vaddsh: 9 + 4"},
+    {0xF5, 0x76, 0x59, 0x5080, 1, "vmulsh: 9 * 4"},
+    {0xF5, 0x76, 0x5C, 0x4500, 1, "vsubsh: 9 - 4"},
+    {0xF5, 0x76, 0x5E, 0x4080, 1, "vdivsh: 9 / 4"},
+    {0xF5, 0x76, 0x51, 0x4000, 1, "vsqrtsh: the root of 4"},
+    {0xF6, 0x75, 0x99, 0x4D40, 0, "vfmadd132sh: 3 * 4 + 9"},
+    {0xF6, 0x75, 0xA9, 0x4FC0, 0, "vfmadd213sh: 9 * 3 + 4"},
+    {0xF6, 0x75, 0xB9, 0x50E0, 0, "vfmadd231sh: 9 * 4 + 3"},
+};
+
+/* 3, 9 and 4 in lane 0; above it signalling NaNs, all unlike; every exception unmasked. */
+static void set_scalars(machine *m) {
+    static const uint16_t halves[3] = {0x4200, 0x4880, 0x4400};
+    blank(m);
+    for (int reg = 0; reg < 3; reg++) {
+        for (int lane = 0; lane < 32; lane++) {
+            set(m, reg, lane, lane == 0 ? halves[reg] : (uint16_t)(0x7D00 + 32 * reg + lane));
+        }
+    }
+    m->control = 0;
+}
+
+/* R5.10: lane 0, lanes 1 to 7 as a register has them, 0 above; the pointer by R4.15. */
+static void write_scalar(machine *m, uint16_t half, int upper, uint64_t length) {
+    set(m, 0, 0, half);
+    for (int lane = 1; lane < 32; lane++) {
+        set(m, 0, lane, lane < 8 ? get(m, upper, lane) : 0);
+    }
+    m->pointer += length;
+}
+
+/* Registers, by byte 3: the length bits, z and the mask, of which bit 0 alone counts. */
+static void check_scalar(const scalar *row) {
+    enum { RESULT, KEPT, ZERO, REFUSED };
+    static const struct {
+        uint8_t byte_3;
+        uint64_t mask;
+        int becomes;
+    } forms[] = {
+        {0x08, 0, RESULT}, {0x28, 0, RESULT}, {0x48, 0, RESULT}, /* lengths, all alike */
+        {0x68, 0, REFUSED}, {0x88, 1, REFUSED},                  /* length bits 3; z without k1 */
+        {0x09, 1, RESULT}, {0x89, 1, RESULT},
+        {0x09, UINT64_MAX - 1, KEPT}, {0x89, UINT64_MAX - 1, ZERO},
+    };
+    for (size_t i = 0; i < sizeof forms / sizeof forms[0]; i++) {
+        const uint8_t code[] = {0x62, row->byte_1, row->byte_2, forms[i].byte_3, row->opcode, 0xC2};
+        const uint16_t halves[] = {row->half, 0x4200, 0x0000};
+        machine m, expected;
+        set_scalars(&m);
+        m.masks[1] = forms[i].mask;
+        expected = m;
+        ridgecrook_answer answer = step(&m, code, sizeof code, NULL, 0);
+        if (forms[i].becomes == REFUSED) {
+            check(is(answer, RIDGECROOK_RESERVED, 0), row->what);
+        } else {
+            check(is(answer, RIDGECROOK_DONE, 6), row->what);
+            write_scalar(&expected, halves[forms[i].becomes], row->upper, 6);
+        }
+        check(same(&m, &expected), row->what);
+    }
+}
+
+/* RAX + 2, here address 0 (R3.13), with memory at the end of a page, and k1 0. */
+static void check_scalar_memory(const scalar *row, uint8_t *end) {
+    static const struct {
+        uint8_t byte_3;
+        size_t code_length, held;
+        uint32_t number;
+    } forms[] = {
+        {0x08, 7, 2, RIDGECROOK_DONE},
+        {0x48, 7, 2, RIDGECROOK_DONE},
+        {0x09, 7, 1, RIDGECROOK_DONE}, /* lane 0 is off */
+        {0x08, 7, 1, RIDGECROOK_OUTSIDE_MEMORY},
+        {0x08, 7, 0, RIDGECROOK_OUTSIDE_MEMORY},
+        {0x08, 6, 2, RIDGECROOK_CUT_SHORT},
+        {0x18, 7, 2, RIDGECROOK_RESERVED}, /* b (R4.10) */
+        {0x19, 7, 2, RIDGECROOK_RESERVED},
+        {0x18, 6, 2, RIDGECROOK_RESERVED}, /* before the byte that is missing */
+        {0x68, 7, 2, RIDGECROOK_RESERVED},
+    };
+    for (size_t i = 0; i < sizeof forms / sizeof forms[0]; i++) {
+        const uint8_t code[] = {0x62,        row->byte_1, row->byte_2, forms[i].byte_3,
+                                row->opcode, 0x40,        0x01};
+        const uint8_t *memory = end - forms[i].held;
+        machine m, expected;
+        set_scalars(&m);
+        set(&m, 2, 0, 0x7D00);
+        m.general[0] = UINT64_MAX - 1;
+        expected = m;
+        memcpy(end - forms[i].held, "\x00\x44", forms[i].held);
+        ridgecrook_answer answer = step(&m, code, forms[i].code_length, memory, forms[i].held);
+        int done = forms[i].number == RIDGECROOK_DONE;
+        if (done) {
+            write_scalar(&expected, forms[i].byte_3 == 0x09 ? 0x4200 : row->half, row->upper, 7);
+        }
+        check(is(answer, forms[i].number, done ? 7 : 0), row->what);
+        check(same(&m, &expected), row->what);
+    }
+}
+
+/* R7.5: 5/3 and -5/3 in each mode, with every exception unmasked; without b, answer 8. */
+static void check_scalar_rounding(void) {
+    static const uint16_t quotients[2][4] = {{0x3EAB, 0x3EAA, 0x3EAB, 0x3EAA},
+                                             {0xBEAB, 0xBEAB, 0xBEAA, 0xBEAA}};
+    for (int i = 0; i < 8; i++) {
+        uint8_t code[] = {0x62, 0xF5, 0x76, (uint8_t)(0x18 | i % 4 << 5), 0x5E, 0xC2};
+        machine m, expected;
+        set_scalars(&m);
+        set(&m, 1, 0, i < 4 ? 0x4500 : 0xC500);
+        set(&m, 2, 0, 0x4200);
+        expected = m;
+        write_scalar(&expected, quotients[i / 4][i % 4], 1, 6);
+        check(is(step(&m, code, sizeof code, NULL, 0), RIDGECROOK_DONE, 6), "a scalar's own mode");
+        check(same(&m, &expected), "its quotient, and no flag");
+        code[3] = 0x08;
+        expected.control = RIDGECROOK_PE;
+        check(is(step(&m, code, sizeof code, NULL, 0), RIDGECROOK_EXCEPTION, 0), "PE in lane 0");
+        check(same(&m, &expected), "its flag alone is added");
+    }
+}
+
+static void check_scalars(void) {
+    uint8_t *end = page_end();
+    for (size_t i = 0; i < sizeof SCALARS / sizeof SCALARS[0]; i++) {
+        check_scalar(&SCALARS[i]);
+        check_scalar_memory(&SCALARS[i], end);
+    }
+    check_scalar_rounding();
+}
+
 /* R8.4: a null pointer with length 0 is common in C, and is not read. */
 static void check_null(void) {
     machine m, before;
@@ -239,6 +378,7 @@ int main(void) {
     check_exception();
     check_stages();
     check_memory();
+    check_scalars();
     check_null();
     check_ends();
     return finish();

@@ -27,14 +27,14 @@ pub struct Encoding {
     pub rest: Vec<u8>,
 }
 
-/// Length bits of 8, 16 and 32 lanes.
+/// Length bits of 8, 16 and 32 lanes; a scalar row reads them alike (R3.7).
 pub const LANES_8: u8 = 0;
 pub const LANES_16: u8 = 1;
 pub const LANES_32: u8 = 2;
 
 impl Encoding {
-    /// The register form with 32 lanes and no mask. For an instruction without a first source,
-    /// `first` is to be 0, which is stored as ones.
+    /// The register form with the length bits of 32 lanes and no mask. For an instruction without a
+    /// first source, `first` is to be 0, which is stored as ones.
     pub fn registers(listed: &Listed, destination: u8, first: u8, second: u8) -> Encoding {
         Encoding {
             map: listed.map,
@@ -55,7 +55,7 @@ impl Encoding {
         }
     }
 
-    /// A memory form by its mod and rm and the bytes that follow, with 32 lanes and no mask.
+    /// A memory form by its mod and rm and the bytes that follow, with the same length and no mask.
     pub fn memory(listed: &Listed, mode: u8, rm: u8, rest: &[u8]) -> Encoding {
         Encoding {
             mode,

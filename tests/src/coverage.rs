@@ -1,8 +1,10 @@
 //! Counts what steps reach, so that a test fails where its steps miss something they were made for.
 
+mod scalar;
+
 use crate::compare::Comparison;
 use crate::machine::{Step, StepOutcome, VECTORS_SIZE};
-use crate::second::encoding::{decode, Address, Base, Instruction, Second, Source, LIST};
+use crate::second::encoding::{decode, find, Address, Base, Instruction, Listed, Second, LIST};
 use crate::second::step::{first_address, is_on, raised, unmasked, EARLY};
 
 /// A step with its outcome, and the instruction where its bytes make one.
@@ -16,7 +18,8 @@ pub struct Seen<'a> {
 type Feature = (&'static str, usize, fn(&Seen) -> Option<usize>);
 
 /// Which kind is out of reach: answer 6, which no step gives (R4.12); index 4, which is the
-/// encoding of no index; 9 bytes, since no SIB byte and displacement have 3 together.
+/// encoding of no index; 9 bytes, since no SIB byte and displacement have 3 together. Of the
+/// features of scalar rows every kind is in reach.
 const OUT_OF_REACH: [(&str, usize); 3] = [
     ("answer", 6),
     ("index register", 4),
@@ -25,16 +28,16 @@ const OUT_OF_REACH: [(&str, usize); 3] = [
 
 const FEATURES: &[Feature] = &[
     ("answer", 9, |s| Some(s.number())),
-    ("instruction done", 8, |s| {
+    ("instruction done", LIST.len(), |s| {
         let name = s.done()?.listed.name;
         LIST.iter().position(|row| row.name == name)
     }),
     ("lanes 8, 16, 32", 3, |s| {
-        let instruction = s.done().filter(|i| i.embedded_mode.is_none())?;
-        [8, 16, 32].iter().position(|&n| n == instruction.lanes)
+        let instruction = s.packed().filter(|i| i.embedded_mode.is_none())?;
+        [8, 16, 32].iter().position(|&n| n == instruction.elements)
     }),
     ("mode of embedded rounding", 4, |s| {
-        s.done()?.embedded_mode.map(|mode| mode as usize)
+        s.packed()?.embedded_mode.map(|mode| mode as usize)
     }),
     ("mode of the control word", 4, |s| {
         let instruction = s.done()?;
@@ -44,7 +47,7 @@ const FEATURES: &[Feature] = &[
     ("destination register", 32, |s| Some(s.done()?.destination)),
     ("first source register", 32, |s| {
         let instruction = s.done()?;
-        yes(instruction.listed.operands.contains(&Source::First)).map(|_| instruction.first)
+        yes(instruction.listed.takes_first()).map(|_| instruction.first)
     }),
     ("second source register", 32, |s| match s.done()?.second {
         Second::Register(number) => Some(number),
@@ -55,15 +58,17 @@ const FEATURES: &[Feature] = &[
         3,
         destination_as_source,
     ),
-    ("register, memory, broadcast", 3, |s| Some(form(s.done()?))),
+    ("register, memory, broadcast", 3, |s| {
+        Some(form(s.packed()?))
+    }),
     ("all lanes off: register, memory, broadcast", 3, |s| {
-        let instruction = s.done()?;
+        let instruction = s.packed()?;
         yes(s.lanes_on(instruction).is_empty()).map(|_| form(instruction))
     }),
     ("some lanes off: merged, zeroed", 2, |s| {
-        let instruction = s.done()?;
+        let instruction = s.packed()?;
         let on = s.lanes_on(instruction).len();
-        let some = (1..instruction.lanes).contains(&on);
+        let some = (1..instruction.elements).contains(&on);
         yes(some).map(|_| usize::from(instruction.zeroing))
     }),
     ("mask register, 0 for none", 8, |s| Some(s.done()?.mask)),
@@ -95,11 +100,11 @@ const FEATURES: &[Feature] = &[
         Some(usize::from(address.displacement_bytes == 4))
     }),
     ("8-bit displacement times 2, 16, 32, 64", 4, |s| {
-        let (instruction, address) = (s.done()?, s.address()?);
+        let (instruction, address) = (s.packed()?, s.address()?);
         let n = if form(instruction) == 2 {
             2
         } else {
-            2 * instruction.lanes
+            2 * instruction.elements
         };
         let has = address.displacement_bytes == 1 && address.displacement != 0;
         yes(has).and_then(|_| [2, 16, 32, 64].iter().position(|&m| m == n))
@@ -134,17 +139,17 @@ const FEATURES: &[Feature] = &[
             .position(|&n| n == last)
     }),
     ("lanes outside memory, but off", 1, |s| {
-        let instruction = s.done().filter(|i| form(i) == 1)?;
+        let instruction = s.packed().filter(|i| form(i) == 1)?;
         let end = s
             .first_address()?
-            .wrapping_add(2 * instruction.lanes as u64);
+            .wrapping_add(2 * instruction.elements as u64);
         yes(end > s.before.memory.len() as u64)
     }),
     ("memory of 0, 1, 2 bytes, done", 3, |s| {
-        yes(form(s.done()?) != 0).and_then(|_| small_memory(s))
+        yes(form(s.packed()?) != 0).and_then(|_| small_memory(s))
     }),
     ("memory of 0, 1, 2 bytes, refused", 3, |s| {
-        yes(s.number() == 7).and_then(|_| small_memory(s))
+        yes(s.number() == 7 && !s.instruction?.listed.is_scalar()).and_then(|_| small_memory(s))
     }),
     ("flag added, done", 6, |s| {
         s.done()?;
@@ -219,7 +224,7 @@ const FEATURES: &[Feature] = &[
         single_bit(code[1] >> 3 & 1 | !code[2] >> 1 & 2)
     }),
     ("length bits 11: register, memory, broadcast", 3, |s| {
-        let code = s.before.code.get(..6).filter(|_| s.number() == 5)?;
+        let code = s.reserved(false)?;
         let (length, extra) = (code[3] >> 5 & 3, code[3] >> 4 & 1);
         yes(length == 3)?;
         match (code[5] >> 6, extra) {
@@ -229,11 +234,10 @@ const FEATURES: &[Feature] = &[
         }
     }),
     ("zeroing without a mask", 1, |s| {
-        let code = s.before.code.get(..6).filter(|_| s.number() == 5)?;
-        yes(code[3] & 0x87 == 0x80)
+        yes(s.reserved(false)?[3] & 0x87 == 0x80)
     }),
     ("root with a first source: V', vvvv", 2, |s| {
-        let code = s.before.code.get(..6).filter(|_| s.number() == 5)?;
+        let code = s.reserved(false)?;
         yes(code[4] == 0x51)?;
         let (v, vvvv) = (!code[3] >> 3 & 1, !code[2] >> 3 & 15);
         single_bit(v | u8::from(vvvv != 0) << 1)
@@ -248,8 +252,22 @@ const FEATURES: &[Feature] = &[
     }),
 ];
 
+fn all_features() -> impl Iterator<Item = &'static Feature> {
+    FEATURES.iter().chain(scalar::FEATURES)
+}
+
 fn yes(holds: bool) -> Option<usize> {
     holds.then_some(0)
+}
+
+/// Which of two things holds, or that both do.
+fn single_bit_or_both(first: bool, second: bool) -> Option<usize> {
+    match (first, second) {
+        (true, false) => Some(0),
+        (false, true) => Some(1),
+        (true, true) => Some(2),
+        (false, false) => None,
+    }
 }
 
 /// The number of the only bit.
@@ -266,15 +284,10 @@ fn form(instruction: &Instruction) -> usize {
 
 fn destination_as_source(s: &Seen) -> Option<usize> {
     let instruction = s.done()?;
-    let is_first = instruction.first == instruction.destination;
+    let is_first = instruction.listed.takes_first() && instruction.first == instruction.destination;
     let is_second =
         matches!(instruction.second, Second::Register(n) if n == instruction.destination);
-    match (is_first, is_second) {
-        (true, false) => Some(0),
-        (false, true) => Some(1),
-        (true, true) => Some(2),
-        (false, false) => None,
-    }
+    single_bit_or_both(is_first, is_second)
 }
 
 fn address_form(s: &Seen) -> Option<usize> {
@@ -297,7 +310,7 @@ fn small_memory(s: &Seen) -> Option<usize> {
 /// Where exactly one of prefix, map, W and opcode keeps the bytes from a row of the list.
 fn unlisted(s: &Seen) -> Option<usize> {
     let code = s.before.code.get(..6).filter(|_| s.number() == 4)?;
-    let wrong = |row: &crate::second::encoding::Listed| {
+    let wrong = |row: &Listed| {
         let prefix = u8::from(code[2] & 3 != row.prefix);
         let map = u8::from(code[1] & 7 != row.map);
         let w = u8::from(code[2] >> 7 != row.w);
@@ -316,9 +329,30 @@ impl Seen<'_> {
         self.instruction.filter(|_| self.number() == 0)
     }
 
+    fn packed(&self) -> Option<&Instruction> {
+        self.done().filter(|i| !i.listed.is_scalar())
+    }
+
+    fn scalar(&self) -> Option<&Instruction> {
+        self.done().filter(|i| i.listed.is_scalar())
+    }
+
+    /// Of code that has its six bytes.
+    fn length_bits(&self) -> usize {
+        usize::from(self.before.code[3] >> 5 & 3)
+    }
+
+    /// The first six bytes of a scalar row, or of another, that is refused with 5 after the list.
+    fn reserved(&self, scalar: bool) -> Option<&[u8]> {
+        let code = self.before.code.get(..6).filter(|_| self.number() == 5)?;
+        let fixed_bits = code[1] & 8 == 0 && code[2] & 4 != 0;
+        let row = find(code).filter(|row| fixed_bits && row.is_scalar() == scalar);
+        row.map(|_| code)
+    }
+
     fn lanes_on(&self, instruction: &Instruction) -> Vec<usize> {
         let machine = &self.before.machine;
-        let lanes = 0..instruction.lanes;
+        let lanes = 0..instruction.elements;
         lanes
             .filter(|&lane| is_on(machine, instruction, lane))
             .collect()
@@ -430,7 +464,7 @@ pub struct Coverage {
 
 impl Coverage {
     pub fn none() -> Coverage {
-        let counts = FEATURES.iter().map(|(_, kinds, _)| vec![0; *kinds]);
+        let counts = all_features().map(|(_, kinds, _)| vec![0; *kinds]);
         Coverage {
             counts: counts.collect(),
         }
@@ -444,7 +478,7 @@ impl Coverage {
             outcome,
             instruction: decoded.as_ref().filter(|_| lent_well),
         };
-        for (counts, (_, _, kind)) in self.counts.iter_mut().zip(FEATURES) {
+        for (counts, (_, _, kind)) in self.counts.iter_mut().zip(all_features()) {
             if let Some(reached) = kind(&seen) {
                 counts[reached] += 1;
             }
@@ -453,14 +487,20 @@ impl Coverage {
 
     /// A line for each feature, with the count of each kind.
     pub fn lines(&self) -> Vec<String> {
-        let rows = FEATURES.iter().zip(&self.counts);
+        let rows = all_features().zip(&self.counts);
         rows.map(|((name, _, _), counts)| format!("{name}: {counts:?}"))
             .collect()
     }
 
     /// Fails where a kind was reached less often than that, or one out of reach was.
     pub fn require(&self, least: u64) {
-        for ((name, _, _), counts) in FEATURES.iter().zip(&self.counts) {
+        self.require_of(least, |_| true);
+    }
+
+    /// The same of some features, by their names.
+    pub fn require_of(&self, least: u64, chosen: impl Fn(&str) -> bool) {
+        let features = all_features().zip(&self.counts);
+        for ((name, _, _), counts) in features.filter(|((name, _, _), _)| chosen(name)) {
             for (kind, &count) in counts.iter().enumerate() {
                 if OUT_OF_REACH.contains(&(name, kind)) {
                     assert_eq!(count, 0, "{name}, {kind}: out of reach, yet reached");
@@ -472,7 +512,7 @@ impl Coverage {
     }
 
     /// Fails unless the answers given were these and no others.
-    fn require_answers(&self, numbers: &[usize]) {
+    pub fn require_answers(&self, numbers: &[usize]) {
         let given: Vec<usize> = (0..9).filter(|&n| self.counts[0][n] > 0).collect();
         assert_eq!(given, numbers, "the answers that were given");
     }

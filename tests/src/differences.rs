@@ -64,16 +64,22 @@ fn with_overflow_unmasked(case: &Case) -> u8 {
 mod tests {
     use super::*;
 
-    /// The example of R7.6: the control word by the rules, and the processor's.
+    /// The example of R7.6, packed, scalar and fused to it: the control word by the rules, and the
+    /// processor's.
     #[test]
     fn the_rule_gives_the_known_case() {
-        let line = "step code=62F5744959C2 control=00001B80 k1=1 z1=E200 z2=7800";
-        let step: Step = line.parse().unwrap();
-        let by_rules = second::step(&step);
-        assert_eq!(by_rules.after.machine.control, 0x1BA8);
-        let (processor, name) = on_a_processor(&step, &by_rules);
-        assert_eq!(processor.after.machine.control, 0x1B88);
-        assert_eq!(name, Some(Difference::OverflowPrecision));
+        for line in [
+            "step code=62F5744959C2 control=00001B80 k1=1 z1=E200 z2=7800",
+            "step code=62F5760859C2 control=00001B80 z1=E200,7BFFx31 z2=7800,7BFFx31",
+            "step code=62F67508B9C2 control=00001B80 z1=E200,7BFFx31 z2=7800,7BFFx31",
+        ] {
+            let step: Step = line.parse().unwrap();
+            let by_rules = second::step(&step);
+            assert_eq!(by_rules.after.machine.control, 0x1BA8, "{line}");
+            let (processor, name) = on_a_processor(&step, &by_rules);
+            assert_eq!(processor.after.machine.control, 0x1B88, "{line}");
+            assert_eq!(name, Some(Difference::OverflowPrecision));
+        }
     }
 
     /// Inexact overflows, masked ones, and those that an early stage stops have no name.

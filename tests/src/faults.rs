@@ -5,13 +5,13 @@ use crate::case::{DE, IE, OE, PE, UE, ZE};
 use crate::differences::on_a_processor;
 use crate::machine::{Answer, Machine, Step, StepOutcome};
 use crate::second;
-use crate::second::encoding::{decode, Instruction};
+use crate::second::encoding::{decode, Instruction, Second, Source};
 use crate::second::step::{is_on, lane_cases, unmasked, EARLY};
 
 /// What is wrong, and what it does to an outcome.
 pub type Fault = (&'static str, fn(&Step, &mut StepOutcome));
 
-pub const FAULTS: [Fault; 27] = [
+pub const FAULTS: [Fault; 40] = [
     ("a half off by one, where PE is raised", |step, outcome| {
         if done_with(step, outcome, PE) {
             change_lane(step, outcome, |half| half ^ 1);
@@ -105,7 +105,7 @@ pub const FAULTS: [Fault; 27] = [
         }
     }),
     ("7 for a lane that is off", |step, outcome| {
-        let off = |i: &Instruction| (0..i.lanes).any(|lane| !is_on(&step.machine, i, lane));
+        let off = |i: &Instruction| (0..i.elements).any(|lane| !is_on(&step.machine, i, lane));
         let memory = step.code.get(5).is_some_and(|byte| byte >> 6 != 3);
         if outcome.answer.number == 0 && memory && instruction(step).is_some_and(|i| off(&i)) {
             refuse(step, outcome, 7);
@@ -113,14 +113,14 @@ pub const FAULTS: [Fault; 27] = [
     }),
     ("lanes that are off as zeros without z", |step, outcome| {
         for_lanes(step, outcome, |machine, i, lane| {
-            if lane < i.lanes && !i.zeroing && !is_on(machine, i, lane) {
+            if lane < i.elements && !i.zeroing && !is_on(machine, i, lane) {
                 machine.set_lane(i.destination, lane, 0);
             }
         });
     }),
     ("bytes above the length kept", |step, outcome| {
         for_lanes(step, outcome, |machine, i, lane| {
-            if lane >= i.lanes {
+            if !i.listed.is_scalar() && lane >= i.elements {
                 machine.set_lane(i.destination, lane, step.machine.lane(i.destination, lane));
             }
         });
@@ -143,7 +143,150 @@ pub const FAULTS: [Fault; 27] = [
             outcome.after.machine.pointer = outcome.after.machine.pointer.wrapping_sub(1);
         }
     }),
+    ("scalar: bytes 16 to 63 kept", |step, outcome| {
+        copy_above(step, outcome, Source::Destination, 8..32, |_, _| true);
+    }),
+    ("scalar: lanes copied up to the length", |step, outcome| {
+        let lanes = step
+            .code
+            .get(3)
+            .map_or(8, |byte| 8 << (byte >> 5 & 3).min(2));
+        copy_above(step, outcome, Source::First, 8..lanes, |_, i| {
+            !accumulates(i)
+        });
+    }),
+    ("scalar: lanes 1 to 7 kept", |step, outcome| {
+        copy_above(step, outcome, Source::Destination, 1..8, |_, _| true);
+    }),
+    (
+        "scalar: lanes 1 to 7 from the second source",
+        |step, outcome| {
+            copy_above(step, outcome, Source::Second, 1..8, |_, _| true);
+        },
+    ),
+    (
+        "scalar: lanes 1 to 7 kept while lane 0 is off",
+        |step, outcome| {
+            copy_above(step, outcome, Source::Destination, 1..8, |_, i| {
+                !is_on(&step.machine, i, 0)
+            });
+        },
+    ),
+    (
+        "scalar: lanes 1 to 7 kept by their mask bits",
+        |step, outcome| {
+            copy_above(step, outcome, Source::Destination, 1..8, |lane, i| {
+                i.mask != 0 && step.machine.masks[i.mask] >> lane & 1 == 0
+            });
+        },
+    ),
+    ("scalar: lanes 1 to 7 as zeros", |step, outcome| {
+        for_lanes(step, outcome, |machine, i, lane| {
+            if i.listed.is_scalar() && (1..8).contains(&lane) {
+                machine.set_lane(i.destination, lane, 0);
+            }
+        });
+    }),
+    ("scalar: lanes 1 to 7 as zeros with z", |step, outcome| {
+        for_lanes(step, outcome, |machine, i, lane| {
+            if i.listed.is_scalar() && i.zeroing && (1..8).contains(&lane) {
+                machine.set_lane(i.destination, lane, 0);
+            }
+        });
+    }),
+    (
+        "scalar: lanes 1 to 7 of a fused one from the first source",
+        |step, outcome| {
+            copy_above(step, outcome, Source::First, 1..8, |_, i| accumulates(i));
+        },
+    ),
+    (
+        "scalar: NaNs in lanes 1 to 7 made quiet",
+        |step, outcome| {
+            for_lanes(step, outcome, |machine, i, lane| {
+                let half = machine.lane(i.destination, lane);
+                let is_nan = half & 0x7FFF > 0x7C00;
+                if i.listed.is_scalar() && is_nan && lane > 0 {
+                    machine.set_lane(i.destination, lane, half | 0x0200);
+                }
+            });
+        },
+    ),
+    (
+        "scalar: 8 after lanes 1 to 7 were copied",
+        |step, outcome| {
+            let scalar = instruction(step).filter(|i| i.listed.is_scalar() && !accumulates(i));
+            if let Some(i) = scalar.filter(|_| outcome.answer.number == 8) {
+                for lane in 1..8 {
+                    let half = step.machine.lane(i.first, lane);
+                    outcome.after.machine.set_lane(i.destination, lane, half);
+                }
+            }
+        },
+    ),
+    (
+        "scalar: 7 for a word that lane 0 off does not read",
+        |step, outcome| {
+            let off = |i: &Instruction| i.listed.is_scalar() && !is_on(&step.machine, i, 0);
+            if outcome.answer.number == 0 && instruction(step).is_some_and(|i| off(&i)) {
+                with_lane_0_on(step, outcome, 7);
+            }
+        },
+    ),
+    ("scalar: as if packed", |step, outcome| {
+        if instruction(step).is_some_and(|i| i.listed.is_scalar()) {
+            *outcome = as_packed(step);
+        }
+    }),
 ];
+
+/// R2.2: whether what the destination held is an operand.
+fn accumulates(instruction: &Instruction) -> bool {
+    instruction.listed.operands.contains(&Source::Destination)
+}
+
+/// Copies lanes of a scalar row that is done from a register as it was, where they are chosen.
+fn copy_above(
+    step: &Step,
+    outcome: &mut StepOutcome,
+    from: Source,
+    lanes: std::ops::Range<usize>,
+    chosen: impl Fn(usize, &Instruction) -> bool,
+) {
+    for_lanes(step, outcome, |machine, i, lane| {
+        let register = match (from, i.second) {
+            (Source::Destination, _) => i.destination,
+            (Source::First, _) => i.first,
+            (Source::Second, Second::Register(second)) => second,
+            (Source::Second, _) => return,
+        };
+        if i.listed.is_scalar() && lanes.contains(&lane) && chosen(lane, i) {
+            machine.set_lane(i.destination, lane, step.machine.lane(register, lane));
+        }
+    });
+}
+
+/// Where the step with no mask would have that answer, the step has it.
+fn with_lane_0_on(step: &Step, outcome: &mut StepOutcome, number: u32) {
+    let mut unmasked = step.clone();
+    unmasked.code[3] &= !0x87;
+    if second::step(&unmasked).answer.number == number {
+        refuse(step, outcome, number);
+    }
+}
+
+/// What the packed row of the same operation gives, by the second program, but with the step's own
+/// bytes.
+fn as_packed(step: &Step) -> StepOutcome {
+    let mut packed = step.clone();
+    match packed.code[2] & 3 {
+        2 => packed.code[2] &= !3,
+        _ => packed.code[4] &= !1,
+    }
+    let mut outcome = second::step(&packed);
+    outcome.after.code = step.code.clone();
+    outcome
+}
 
 fn instruction(step: &Step) -> Option<Instruction> {
     decode(&step.code).ok()

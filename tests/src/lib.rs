@@ -16,6 +16,7 @@ pub mod program;
 pub mod random;
 pub mod random_step;
 pub mod recorded;
+pub mod rows;
 pub mod second;
 pub mod step_line;
 pub mod transfer;

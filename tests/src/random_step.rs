@@ -5,8 +5,9 @@ use crate::assemble::Encoding;
 use crate::corners;
 use crate::machine::{Machine, Step, ALL_MASKED, VECTORS_SIZE};
 use crate::random::Random;
-use crate::second::encoding::{decode, Base, Instruction, Second, LIST};
+use crate::second::encoding::{decode, Base, Instruction, Second, Source, LIST};
 use crate::second::step::first_address;
+use crate::witness::set_operand;
 
 /// What a generator of steps draws from.
 pub struct Steps {
@@ -56,6 +57,9 @@ impl Steps {
             memory,
         };
         self.aim(&mut step);
+        if self.random.once_in(8) {
+            self.divide_by_zero(&mut step);
+        }
         if self.random.once_in(3) {
             let extra = self.random.within(1, 6);
             let bytes = (0..extra).map(|_| self.random.bits() as u8);
@@ -157,14 +161,17 @@ impl Steps {
         code
     }
 
-    /// The fields of a valid instruction, with enough bytes behind for any operand.
+    /// The fields of a valid instruction, with enough bytes behind for any operand. A scalar row
+    /// has no broadcast.
     fn encoding(&mut self) -> Encoding {
         let random = &mut self.random;
-        let listed = &LIST[random.within(0, 7) as usize];
-        let (mode, extra) = (random.one_of(&[0, 1, 2, 3, 3]), random.within(0, 1) as u8);
+        let listed = &LIST[random.within(0, LIST.len() as i32 - 1) as usize];
+        let mode = random.one_of(&[0, 1, 2, 3, 3]);
+        let takes_b = mode == 3 || !listed.is_scalar();
+        let extra = u8::from(takes_b) & random.bits() as u8;
         let embedded = mode == 3 && extra == 1;
         let mask = random.one_of(&[0, 0, 1, 2, 3, 4, 5, 6, 7]);
-        let has_first = listed.operands.len() > 1;
+        let has_first = listed.takes_first();
         Encoding {
             destination: random.bits() as u8,
             first: if has_first { random.bits() as u8 } else { 0 },
@@ -204,9 +211,10 @@ impl Steps {
     /// An address worth trying: inside memory, at an edge, or just outside.
     fn target(&mut self, step: &Step, instruction: &Instruction) -> u64 {
         let length = step.memory.len() as i32;
-        let whole = 2 * instruction.lanes as i32;
+        let whole = 2 * instruction.elements as i32;
         let target = match self.random.within(0, 7) {
             0 => self.random.within(-whole - 2, length + 2),
+            // The last word ends where memory does.
             1 => length - whole,
             2 => length - 2 + self.random.within(-2, 2),
             3 => -2 * self.random.within(0, 32),
@@ -244,6 +252,14 @@ impl Steps {
                 let place = instruction.length - 4;
                 step.code[place..].copy_from_slice(&(target as u32).to_le_bytes());
             }
+        }
+    }
+
+    /// A zero for the second source of lane 0, which is the one element of a scalar row.
+    fn divide_by_zero(&mut self, step: &mut Step) {
+        let zero = self.random.half() & 0x8000;
+        if let Ok(instruction) = decode(&step.code) {
+            set_operand(step, &instruction, Source::Second, 0, zero);
         }
     }
 

@@ -1,6 +1,7 @@
 //! What a processor said of a fixed set of steps, in tests/data/processor.txt: lines that begin
 //! with `#` name the processor, the seed and the number of cases, the others are steps with their
-//! outcomes as `step_line` prints them.
+//! outcomes as `step_line` prints them. The file there is of a time when the list had its packed
+//! rows alone; what `witness --record` asks now has scalar rows too.
 
 use crate::assemble::Encoding;
 use crate::corners;
@@ -9,7 +10,7 @@ use crate::machine::{Step, StepOutcome, ALL_MASKED};
 use crate::processor::{model, Processor};
 use crate::random::{self, Random};
 use crate::second;
-use crate::second::encoding::{decode, Instruction, Source, LIST};
+use crate::second::encoding::{decode, Instruction, Second, Source, LIST};
 use crate::step_line::shown_outcome;
 use crate::witness::{runnable, set_operand};
 use std::path::PathBuf;
@@ -19,8 +20,9 @@ pub fn path() -> PathBuf {
 }
 
 /// The examples of R12.1 as steps, the first of R12.4, some like the other examples, and cases
-/// around R7.4 and R7.6.
-const ROWS: [&str; 30] = [
+/// around R7.4 and R7.6. Behind them scalar rows: each once, then what R5.10, R3.7, R3.8, R3.13,
+/// R4.10, R5.6 and R7.6 say of them.
+const ROWS: [&str; 60] = [
     "step code=62F5744958C2 control=00001F80 k1=1 z1=3C00 z2=BC00",
     "step code=62F5744958C2 control=00003F80 k1=1 z1=3C00 z2=BC00",
     "step code=62F5744958C2 control=00001F80 k1=1 z1=7BFF z2=4C00",
@@ -51,9 +53,39 @@ const ROWS: [&str; 30] = [
     "step code=62F5744959C2 control=00001B80 k1=1 z1=E200 z2=7800",
     "step code=62F5744959C2 control=00001B80 k1=1 z1=7BFF z2=7BFF",
     "step code=62F5744959C2 control=00001280 k1=3 z1=E200,0001 z2=7800,3800",
+    "step code=62F5760858C2 control=00001F80 z0=1111x32 z1=3C00,2222x31 z2=4000,3333x31",
+    "step code=62F5760859C2 control=00001F80 z0=1111x32 z1=4200,2222x31 z2=4000,3333x31",
+    "step code=62F576085CC2 control=00001F80 z0=1111x32 z1=3C00,2222x31 z2=4200,3333x31",
+    "step code=62F576085EC2 control=00001F80 z0=1111x32 z1=3C00,2222x31 z2=4200,3333x31",
+    "step code=62F5760851C2 control=00001F80 z0=1111x32 z1=FC01,2222x31 z2=4400,3333x31",
+    "step code=62F6750899C2 control=00001F80 z0=4000,1111x31 z1=4200,2222x31 z2=4900,3333x31",
+    "step code=62F67508A9C2 control=00001F80 z0=4000,1111x31 z1=4200,2222x31 z2=4900,3333x31",
+    "step code=62F67508B9C2 control=00001F80 z0=4000,1111x31 z1=4200,2222x31 z2=4900,3333x31",
+    "step code=62F5762858C2 control=00001F80 z0=1111x32 z1=3C00,2222x31 z2=4000",
+    "step code=62F5764858C2 control=00001F80 z0=1111x32 z1=3C00,2222x31 z2=4000",
+    "step code=62F5766858C2 control=00001F80 z1=3C00 z2=4000",
+    "step code=62F576185EC2 control=00000000 z1=4500,2222x31 z2=4200",
+    "step code=62F576385EC2 control=00000000 z1=4500,2222x31 z2=4200",
+    "step code=62F576585EC2 control=00000000 z1=4500,2222x31 z2=4200",
+    "step code=62F576785EC2 control=00000000 z1=4500,2222x31 z2=4200",
+    "step code=62F5760958C2 control=00001F80 k1=FE z0=1111x32 z1=7C01,2222x31 z2=7C01x32",
+    "step code=62F5768958C2 control=00001F80 k1=FE z0=1111x32 z1=7C01,2222x31 z2=7C01x32",
+    "step code=62F5760958C2 control=00000000 k1=1 z0=1111x32 z1=3C00,7C01x31 z2=3C00,7C01x31",
+    "step code=62F6750999C2 control=00001F80 k1=FE z0=1111x32 z1=2222x32 z2=3333x32",
+    "step code=62F6758999C2 control=00001F80 k1=FE z0=1111x32 z1=2222x32 z2=3333x32",
+    "step code=62F5760858C0 control=00001F80 z0=3C00,1111x31 z1=4000,2222x31",
+    "step code=62F57E0858C1 control=00001F80 z0=3C00,1111x31 z1=4000,2222x31",
+    "step code=62F5760858400F control=00001F80 r0=FFFFFFFFFFFFFFE3 z1=3C00,2222x7 memory=AA003C",
+    "step code=62F576085800 control=00001F80 z1=3C00,2222x7 memory=003C",
+    "step code=62F576085800 control=00001F80 z1=3C00,2222x7 memory=00",
+    "step code=62F576095800 control=00001F80 k1=FE z0=1111x32 z1=3C00,2222x7",
+    "step code=62F576185800 control=00001F80 memory=003C",
+    "step code=62F6751899C2 control=00001F80 z0=4000,1111x31 z1=4200,2222x31 z2=4900,3333x31",
+    "step code=62F576085EC2 control=00001D80 z0=1111x32 z1=3C00,2222x31",
+    "step code=62F5760859C2 control=00001B80 z0=1111x32 z1=E200,2222x31 z2=7800",
 ];
 
-const CASES: usize = 2_400;
+const CASES: usize = 4_800;
 
 /// Asks the processor and writes the file.
 pub fn write(processor: &mut Processor, seed: u64) {
@@ -62,10 +94,7 @@ pub fn write(processor: &mut Processor, seed: u64) {
          # processor: {}\n# seed: {seed}\n# cases: {CASES}\n",
         model()
     );
-    let rows = ROWS.iter().map(|row| row.parse::<Step>().expect(row));
-    let mut cases = Cases::seeded(seed);
-    let others = std::iter::repeat_with(|| cases.step());
-    for step in rows.chain(others).take(CASES) {
+    for step in steps(seed) {
         let length = runnable(&step, false).expect("an instruction of the list");
         let outcome = processor.step(&step, length).expect("no relative address");
         text += &format!("{step} => {}\n", shown_outcome(&step, &outcome));
@@ -74,6 +103,14 @@ pub fn write(processor: &mut Processor, seed: u64) {
     std::fs::create_dir_all(path.parent().expect("a file in a folder")).expect("a folder");
     std::fs::write(&path, &text).expect("the file can be written");
     println!("{CASES} cases, {} bytes", text.len());
+}
+
+/// What is asked: the rows, then cases.
+fn steps(seed: u64) -> impl Iterator<Item = Step> {
+    let rows = ROWS.iter().map(|row| row.parse::<Step>().expect(row));
+    let mut cases = Cases::seeded(seed);
+    let others = std::iter::repeat_with(move || cases.step());
+    rows.chain(others).take(CASES)
 }
 
 /// One line of the file against what the library, or the second program, answers: the name of the
@@ -110,23 +147,50 @@ impl Cases {
 
     /// The instructions in turn; one case in eight has a memory operand.
     fn step(&mut self) -> Step {
-        let (row, with_memory) = (self.place % 8, self.place / 8 % 8 == 7);
+        let (row, with_memory) = (self.place % LIST.len(), self.place / LIST.len() % 8 == 7);
         self.place += 1;
         let lanes = self.random.within(1, 3) as usize;
         let mut encoding = self.encoding(row);
         if with_memory {
-            (encoding.mode, encoding.rm, encoding.length) = (0, 0, 0);
+            (encoding.mode, encoding.rm) = (0, 0);
             (encoding.x, encoding.b, encoding.mask) = (0, 0, encoding.mask.max(1));
+            (encoding.extra, encoding.length) = match LIST[row].is_scalar() {
+                true => (0, encoding.length.min(2)),
+                false => (encoding.extra, 0),
+            };
         }
         let mut step = Step::of(encoding.bytes());
         step.machine.control = self.control();
         let instruction = decode(&step.code).expect("a valid instruction");
         if with_memory {
-            let broadcast = encoding.extra == 1;
-            step.memory = vec![0; if broadcast { 2 } else { 2 * lanes }];
+            step.memory = vec![0; self.memory_size(&instruction, lanes)];
         }
         self.fill(&mut step, &instruction, lanes, with_memory);
+        if instruction.listed.is_scalar() {
+            self.fill_above(&mut step, &instruction);
+        }
         step
+    }
+
+    /// The words of the first lanes, or the one of a broadcast; of a scalar row two bytes, in one
+    /// case of four fewer.
+    fn memory_size(&mut self, instruction: &Instruction, lanes: usize) -> usize {
+        match instruction.second {
+            Second::Memory { broadcast, .. } if broadcast => 2,
+            _ if !instruction.listed.is_scalar() => 2 * lanes,
+            _ if self.random.once_in(4) => self.random.within(0, 1) as usize,
+            _ => 2,
+        }
+    }
+
+    /// Lanes that have no element, a half for each register, which may be a signalling NaN.
+    fn fill_above(&mut self, step: &mut Step, instruction: &Instruction) {
+        for register in [instruction.destination, instruction.first] {
+            let half = self.random.one_of(&self.corners);
+            for lane in 1..10 {
+                step.machine.set_lane(register, lane, half);
+            }
+        }
     }
 
     /// Three registers that are not the same, so that each has its own operands; any masking; 8, 16
@@ -136,7 +200,7 @@ impl Cases {
         let destination = random.within(0, 31) as u8;
         let [first, second] = [random.within(1, 15), random.within(16, 31)].map(|n| n as u8);
         let [first, second] = [destination ^ first, destination ^ second];
-        let first = match LIST[row].operands.contains(&Source::First) {
+        let first = match LIST[row].takes_first() {
             true => first,
             false => 0,
         };
@@ -164,7 +228,8 @@ impl Cases {
     }
 
     /// Operands for the first lanes, of which some are on; without a mask all others are ones. A
-    /// mask may have a bit beyond the memory that is lent, which is then the answer 7.
+    /// mask may have a bit beyond the memory that is lent, which is then the answer 7; to a
+    /// scalar row such a bit says nothing.
     fn fill(&mut self, step: &mut Step, instruction: &Instruction, lanes: usize, memory: bool) {
         let on = self.random.within(1, (1 << lanes) - 1) as u64;
         if instruction.mask != 0 {
@@ -172,15 +237,16 @@ impl Cases {
             step.machine.masks[instruction.mask] = on | beyond;
         }
         let sources = instruction.listed.operands;
-        let used = if instruction.mask == 0 {
-            instruction.lanes
-        } else {
-            lanes
+        let used = match instruction.mask {
+            0 => instruction.elements,
+            _ => lanes.min(instruction.elements),
         };
         for lane in 0..used {
-            let operands = match self.random.within(0, 5) {
+            let operands = match self.random.within(0, 6) {
                 _ if lane >= lanes => [0x3C00; 3],
                 0 | 1 => [(); 3].map(|_| self.random.one_of(&self.corners)),
+                // A divisor that is zero.
+                3 => [0xFC00, 0x8000, 0xFC00].map(|bits| self.random.half() & bits),
                 // Large powers of two, whose products overflow and are exact.
                 2 => [(); 3].map(|_| self.random.half() & 0xFC00 | 0x4000),
                 _ => random::case(&mut self.random, instruction.listed.operation).operands,
@@ -192,5 +258,36 @@ impl Cases {
                 set_operand(step, instruction, *source, lane, *half);
             }
         }
+    }
+}
+
+#[cfg(test)]
+mod tests {
+    use super::*;
+    use crate::coverage::Coverage;
+
+    /// What a processor would be asked, by the second program: all of it can run, and every row and
+    /// what is said of scalar ones is among it.
+    #[test]
+    fn the_steps_to_record_reach_every_row() {
+        let mut coverage = Coverage::none();
+        for step in steps(20_240_302) {
+            assert!(runnable(&step, false).is_some(), "{step}");
+            coverage.see(&step, &second::step(&step));
+        }
+        coverage.require_answers(&[0, 5, 7, 8]);
+        coverage.require_of(3, |name| {
+            [
+                "instruction done",
+                "scalar: no mask; lane 0 on, off, with z on, off",
+                "scalar: mask without bit 0 but with others, with it alone",
+                "scalar: length bits 0, 1, 2 of registers, of memory",
+                "scalar: mode of embedded rounding",
+                "scalar: mode of the control word",
+                "scalar: memory of 2 bytes done, of 1 byte refused, of 0",
+                "scalar: unmasked exception alone",
+            ]
+            .contains(&name)
+        });
     }
 }

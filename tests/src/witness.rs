@@ -95,9 +95,10 @@ impl WitnessSteps {
     }
 
     /// Every instruction in every shape, masking and mode, with none, each, all or some of the
-    /// exceptions unmasked: 11,232 places.
+    /// exceptions unmasked: 22,464 places. Of a scalar row the three lengths are to be alike, and
+    /// the shapes of broadcast are reserved (R4.10).
     fn of_grid(&mut self, place: usize) -> Step {
-        let (row, place) = (place % 8, place / 8);
+        let (row, place) = (place % LIST.len(), place / LIST.len());
         let (shape, place) = (place % SHAPES, place / SHAPES);
         let (masking, place) = (place % 3, place / 3);
         let (mode, unmasking) = (place as u32 % 4, place as i32 / 4 % 9);
@@ -128,9 +129,8 @@ impl WitnessSteps {
 
     fn encoding(&mut self, row: usize, shape: usize, masking: usize) -> Encoding {
         let random = &mut self.steps.random;
-        let has_first = LIST[row].operands.contains(&Source::First);
         let [destination, first, second] = [(); 3].map(|_| random.bits() as u8 & 31);
-        let first = if has_first { first } else { 0 };
+        let first = if LIST[row].takes_first() { first } else { 0 };
         let mut encoding = Encoding::registers(&LIST[row], destination, first, second);
         if masking > 0 {
             encoding.mask = random.within(1, 7) as u8;
@@ -150,10 +150,12 @@ impl WitnessSteps {
         encoding
     }
 
-    /// Gives each lane operands that bring its result near a border.
+    /// Gives each lane that has an element operands that bring its result near a border.
     fn aim_lanes(&mut self, step: &mut Step) {
-        let instruction = decode(&step.code).expect("a place of the grid");
-        for lane in 0..instruction.lanes {
+        let Ok(instruction) = decode(&step.code) else {
+            return;
+        };
+        for lane in 0..instruction.elements {
             let case = random::case(&mut self.steps.random, instruction.listed.operation);
             for (half, source) in case.operands.iter().zip(instruction.listed.operands) {
                 set_operand(step, &instruction, *source, lane, *half);
@@ -164,19 +166,23 @@ impl WitnessSteps {
     /// Gives one lane that is on, if there is one, operands that raise something, and all others
     /// ones, so that its flags stand alone.
     fn aim_one_lane(&mut self, step: &mut Step) {
-        let instruction = decode(&step.code).expect("a place of the grid");
+        let Ok(instruction) = decode(&step.code) else {
+            return;
+        };
         let operation = instruction.listed.operation;
         let chosen = self.lane_that_is_on(step, &instruction);
-        for lane in (0..instruction.lanes)
+        for lane in (0..instruction.elements)
             .filter(|&lane| lane != chosen)
             .chain([chosen])
         {
             let random = &mut self.steps.random;
-            let operands = match random.within(0, 2) {
+            let operands = match random.within(0, 3) {
                 _ if lane != chosen => [0x3C00; 3],
                 0 => [(); 3].map(|_| random.one_of(&self.corners)),
                 // Powers of two, whose products and quotients are exact.
                 1 => [(); 3].map(|_| random.half() & 0xFC00),
+                // A divisor that is zero.
+                2 => [0xFC00, 0x8000, 0xFC00].map(|bits| random.half() & bits),
                 _ => random::case(random, operation).operands,
             };
             for (half, source) in operands.iter().zip(instruction.listed.operands) {
@@ -187,7 +193,7 @@ impl WitnessSteps {
 
     /// A lane that is on, or any.
     fn lane_that_is_on(&mut self, step: &Step, instruction: &Instruction) -> usize {
-        let lanes = 0..instruction.lanes;
+        let lanes = 0..instruction.elements;
         let on: Vec<usize> = lanes
             .filter(|&lane| is_on(&step.machine, instruction, lane))
             .collect();
@@ -198,7 +204,7 @@ impl WitnessSteps {
     }
 }
 
-/// 8, 16 and 32 lanes of registers, of memory and broadcast, and four embedded modes.
+/// Length bits 0, 1 and 2 of registers, of memory and broadcast, and four embedded modes.
 const SHAPES: usize = 13;
 
 /// Writes the half that a source holds for a lane; nothing where it lies outside memory.
@@ -224,4 +230,26 @@ pub fn set_operand(
         }
     };
     step.machine.set_lane(register, lane, half);
+}
+
+#[cfg(test)]
+mod tests {
+    use super::*;
+    use crate::coverage::Coverage;
+
+    /// Twice round the grid, by the second program: every row is done, every answer given that a
+    /// processor has, and scalar rows come in every way that is counted.
+    #[test]
+    fn the_steps_reach_every_row_and_scalar_form() {
+        let mut steps = WitnessSteps::seeded(1, false);
+        let mut coverage = Coverage::none();
+        for _ in 0..4 * 22_464 {
+            let (step, _) = steps.step();
+            coverage.see(&step, &second::step(&step));
+        }
+        coverage.require_answers(&[0, 5, 7, 8]);
+        coverage.require_of(10, |name| {
+            name == "instruction done" || name.starts_with("scalar")
+        });
+    }
 }

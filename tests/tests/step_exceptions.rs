@@ -22,6 +22,7 @@ const LANES: [(u16, u16, u8); 7] = [
 ];
 
 const VDIVPH: usize = 3;
+const VDIVSH: usize = 11;
 
 /// VDIVPH of registers 1 and 2 to register 0, whose lanes 0 to 6 are those above and which has 32
 /// lanes or embedded rounding; `on` goes to k1.
@@ -109,6 +110,50 @@ fn raised_by(on: u32, unmasked: u8) -> u8 {
     raised | if on >> 6 & 1 == 1 { unmasked & UE } else { 0 }
 }
 
+/// VDIVSH of registers 1 and 2 to register 0, which has that lane of the table in lane 0 and the
+/// others, over and over, above it.
+fn scalar_division(lane: usize, control: u32) -> Step {
+    let mut step = Step::of(Encoding::registers(&LIST[VDIVSH], 0, 1, 2).bytes());
+    let machine = &mut step.machine;
+    machine.control = control;
+    machine.vectors[..64].fill(0x55);
+    for place in 0..32 {
+        let (dividend, divisor, _) = LANES[(lane + place) % LANES.len()];
+        machine.set_lane(1, place, dividend);
+        machine.set_lane(2, place, divisor);
+    }
+    step
+}
+
+/// Of a scalar row lane 0 alone raises something, by the same two stages (R5.1, R7.4), of both
+/// programs, from what the lanes are said to raise. Stopped, it leaves every byte of the
+/// destination; done, it copies lanes 1 to 7 of the first source (R5.10).
+#[test]
+fn a_scalar_row_raises_what_lane_0_does() {
+    for place in 0..7 * 64_u32 {
+        let (lane, masks) = (place % 7, place / 7);
+        let unmasked = !(masks as u8) & 63;
+        let raised = raised_by(1 << lane, unmasked);
+        let early = raised & (IE | DE | ZE);
+        let added = if early & unmasked != 0 { early } else { raised };
+        let step = scalar_division(lane as usize, masks << 7);
+        for outcome in [second::step(&step), library::step_outcome(&step)] {
+            let machine = &outcome.after.machine;
+            let number = if raised & unmasked != 0 { 8 } else { 0 };
+            let shown = (outcome.answer.number, machine.control);
+            assert_eq!(shown, (number, masks << 7 | u32::from(added)), "{step}");
+            let before = &step.machine;
+            if number == 8 {
+                assert_eq!(machine.vectors, before.vectors, "{step}");
+                continue;
+            }
+            assert_eq!(machine.vectors[2..16], before.vectors[66..80], "{step}");
+            assert_eq!(machine.vectors[16..64], [0; 48], "{step}");
+            assert_eq!(machine.vectors[64..], before.vectors[64..], "{step}");
+        }
+    }
+}
+
 /// R7.5: embedded rounding in the four modes masks everything, whatever the control word says.
 #[test]
 fn embedded_rounding_hides_every_exception() {
@@ -136,8 +181,9 @@ fn embedded_rounding_hides_every_exception() {
     }
 }
 
-/// Each of the eight instructions on lanes that raise something, in every mode, with each exception
-/// unmasked alone, and none, and all.
+/// Each of the sixteen instructions on lanes that raise something, in every mode, with each
+/// exception unmasked alone, and none, and all. Of a scalar row lane 2 has no element, whatever its
+/// mask bit says.
 #[test]
 fn every_instruction_and_mode() {
     let mut watched = Watched::of(library::step_outcome, "exceptions of each instruction");
@@ -145,11 +191,11 @@ fn every_instruction_and_mode() {
         0x0000, 0x8000, 0x0001, 0x03FF, 0x0400, 0x3800, 0x3C00, 0xBC01, 0x7BFF, 0xFBFF, 0x7C00,
         0xFC00, 0x7C01, 0x7E00, 0x1FE0, 0x2010,
     ];
-    for place in 0..8 * 4 * 8 * 256_usize {
-        let (row, mode, unmasked) = (place % 8, place / 8 % 4, place / 32 % 8);
-        let (a, b) = (halves[place / 256 % 16], halves[place / 4096 % 16]);
-        let (first, second) = if row == 4 { (0, 2) } else { (1, 2) };
-        let mut encoding = Encoding::registers(&LIST[row], 3, first, second);
+    for place in 0..16 * 4 * 8 * 256_usize {
+        let (row, mode, unmasked) = (place % 16, place / 16 % 4, place / 64 % 8);
+        let (a, b) = (halves[place / 512 % 16], halves[place / 8192 % 16]);
+        let first = u8::from(LIST[row].takes_first());
+        let mut encoding = Encoding::registers(&LIST[row], 3, first, 2);
         (encoding.mask, encoding.length) = (5, 0);
         let mut step = Step::of(encoding.bytes());
         let machine = &mut step.machine;
@@ -165,5 +211,5 @@ fn every_instruction_and_mode() {
         }
         watched.step(&step);
     }
-    watched.finish(65_536, &[0, 8]);
+    watched.finish(131_072, &[0, 8]);
 }

@@ -6,7 +6,7 @@ use ridgecrook_tests::coverage::Watched;
 use ridgecrook_tests::library;
 use ridgecrook_tests::machine::{Machine, Step};
 use ridgecrook_tests::random::Random;
-use ridgecrook_tests::second::encoding::LIST;
+use ridgecrook_tests::second::encoding::{scalar_rows, LIST, PACKED};
 
 /// A machine in which every lane of every register is another half: 1,024 of them from 1.0 on.
 fn numbered_machine() -> Machine {
@@ -17,17 +17,16 @@ fn numbered_machine() -> Machine {
     machine
 }
 
-/// Each pair of destination, first and second source, for every instruction.
+/// Each pair of destination, first and second source, for every instruction, of 8 lanes or scalar.
 #[test]
 fn every_pair_of_registers() {
     let mut watched = Watched::of(library::step_outcome, "every pair of registers");
     for (row, listed) in LIST.iter().enumerate() {
-        let has_first = listed.operands.len() > 1;
         for pair in 0..1024_usize {
             let (a, b) = ((pair / 32) as u8, (pair % 32) as u8);
             let other = ((7 * pair / 32 + 5 * pair + row) % 32) as u8;
             for [destination, first, second] in [[a, b, other], [a, other, b], [other, a, b]] {
-                let first = if has_first { first } else { 0 };
+                let first = if listed.takes_first() { first } else { 0 };
                 let mut encoding = Encoding::registers(listed, destination, first, second);
                 encoding.length = LANES_8;
                 let mut step = Step::of(encoding.bytes());
@@ -36,7 +35,7 @@ fn every_pair_of_registers() {
             }
         }
     }
-    watched.finish(8 * 3 * 1024, &[0]);
+    watched.finish(16 * 3 * 1024, &[0]);
 }
 
 /// General registers that differ, such that most sums of two, scaled, lie in 4,000 bytes.
@@ -57,7 +56,8 @@ fn told_memory(length: usize) -> Vec<u8> {
     memory
 }
 
-/// Every ModRM of memory forms, with every SIB byte where there is one, B and X, and broadcast.
+/// Every ModRM of memory forms, with every SIB byte where there is one, B and X, of 8 to 32 lanes,
+/// by broadcast and scalar.
 #[test]
 fn every_addressing_form() {
     let mut watched = Watched::of(library::step_outcome, "every addressing form");
@@ -69,7 +69,8 @@ fn every_addressing_form() {
         if rm != 4 && sib % 64 != 0 {
             continue;
         }
-        for bits in 0..8 {
+        for bits in 0..12 {
+            let (listed, extra) = [(&LIST[0], 0), (&LIST[0], 1), (&scalar_rows()[0], 0)][bits >> 2];
             let displacement = [sib, random.within(-2, 14) as u8, 0, 0, 0, 0];
             let rest = if rm == 4 {
                 &displacement[..]
@@ -77,11 +78,11 @@ fn every_addressing_form() {
                 &displacement[1..]
             };
             let encoding = Encoding {
-                x: bits & 1,
-                b: bits >> 1 & 1,
-                extra: bits >> 2,
+                x: bits as u8 & 1,
+                b: bits as u8 >> 1 & 1,
+                extra,
                 length: random.within(0, 2) as u8,
-                ..Encoding::memory(&LIST[0], mode, rm, rest)
+                ..Encoding::memory(listed, mode, rm, rest)
             };
             let mut step = Step::of(encoding.bytes());
             step.machine.general = general(&mut random);
@@ -90,32 +91,38 @@ fn every_addressing_form() {
             watched.step(&step);
         }
     }
-    watched.finish(6_816, &[0, 7]);
+    watched.finish(10_224, &[0, 7]);
 }
+
+const ENDS: [i32; 11] = [
+    i32::MIN,
+    i32::MIN + 1,
+    -129,
+    -128,
+    -1,
+    0,
+    1,
+    127,
+    128,
+    i32::MAX - 1,
+    i32::MAX,
+];
 
 /// Displacements at the ends of their range, of 8 bits and of 32, so that the sum lies in memory.
 #[test]
 fn every_end_of_a_displacement() {
     let mut watched = Watched::of(library::step_outcome, "ends of displacements");
-    let ends = [
-        i32::MIN,
-        i32::MIN + 1,
-        -129,
-        -128,
-        -1,
-        0,
-        1,
-        127,
-        128,
-        i32::MAX - 1,
-        i32::MAX,
-    ];
-    for displacement in ends {
-        for (mode, length, extra) in (0..12).map(|i| (1 + i / 6, i / 2 % 3, i % 2)) {
+    for displacement in ENDS {
+        for place in 0..18 {
+            let (mode, length, form) = (1 + place / 9, place / 3 % 3, place % 3);
+            let (row, extra, n) = match form {
+                0 => (&LIST[0], 0, 16 << length),
+                1 => (&LIST[0], 1, 2),
+                _ => (&scalar_rows()[0], 0, 2),
+            };
             let bytes = displacement.to_le_bytes();
-            let mut encoding = Encoding::memory(&LIST[0], mode, 0, &bytes);
+            let mut encoding = Encoding::memory(row, mode, 0, &bytes);
             (encoding.length, encoding.extra) = (length, extra);
-            let n = if extra == 1 { 2 } else { 16 << length };
             let added = match mode {
                 1 => i64::from(bytes[0] as i8) * n,
                 _ => i64::from(displacement),
@@ -128,18 +135,27 @@ fn every_end_of_a_displacement() {
             }
         }
     }
-    watched.finish(660, &[0, 7]);
+    watched.finish(990, &[0, 7]);
 }
 
+/// Row, length and b.
+const EDGES: [(usize, u8, u8); 5] = [
+    (0, LANES_8, 0),
+    (0, LANES_32, 0),
+    (0, LANES_32, 1),
+    (PACKED, LANES_8, 0),
+    (LIST.len() - 1, LANES_32, 0),
+];
+
 /// Words of lanes that are on, at and beyond both ends of memories of few bytes, with every lane
-/// on, with one, and with none.
+/// on, with one, and with none; the last two forms are scalar.
 #[test]
 fn every_edge_of_memory() {
     let mut watched = Watched::of(library::step_outcome, "edges of memory");
     for length in [0, 1, 2, 3, 4, 15, 16, 17, 18, 63, 64, 65, 66] {
         let memory = told_memory(length);
         for address in -66..=length as i64 + 2 {
-            for (lanes, extra) in [(LANES_8, 0), (LANES_32, 0), (LANES_32, 1)] {
+            for (row, lanes, extra) in EDGES {
                 for mask in [
                     0_u64,
                     1,
@@ -149,7 +165,7 @@ fn every_edge_of_memory() {
                     0xFFFF_FFFF_0000_0000,
                     u64::MAX,
                 ] {
-                    let mut encoding = Encoding::memory(&LIST[0], 0, 0, &[]);
+                    let mut encoding = Encoding::memory(&LIST[row], 0, 0, &[]);
                     (encoding.length, encoding.extra, encoding.mask) = (lanes, extra, 3);
                     let mut step = Step::of(encoding.bytes());
                     step.machine.general[0] = address as u64;
@@ -160,25 +176,34 @@ fn every_edge_of_memory() {
             }
         }
     }
-    watched.finish(25_851, &[0, 7]);
+    watched.finish(43_085, &[0, 7]);
 }
 
 /// Each bit of each mask register in each length, merged and zeroed, in register form, broadcast
-/// and with embedded rounding. The other mask registers hold the opposite.
+/// and with embedded rounding, and the same of scalar rows, with memory for broadcast. The other
+/// mask registers hold the opposite.
 #[test]
 fn every_mask_bit() {
     let mut watched = Watched::of(library::step_outcome, "every mask bit");
     for place in 0..64 * 8 * 3 * 2_usize {
         let (bit, mask) = (place % 64, place / 64 % 8);
         let (length, zeroing) = (place / 512 % 3, place / 1536);
-        for (mode, extra) in [(3, 0), (3, 1), (0, 1)] {
+        let (packed, scalar) = (place % 4, PACKED + place % 8);
+        for (row, mode, extra) in [
+            (packed, 3, 0),
+            (packed, 3, 1),
+            (packed, 0, 1),
+            (scalar, 3, 0),
+            (scalar, 3, 1),
+            (scalar, 0, 0),
+        ] {
             let encoding = Encoding {
                 mode,
                 extra,
                 length: length as u8,
                 zeroing: zeroing as u8 & u8::from(mask != 0),
                 mask: mask as u8,
-                ..Encoding::registers(&LIST[place % 4], 9, 10, 3)
+                ..Encoding::registers(&LIST[row], 9, 10, 3)
             };
             let mut step = Step::of(encoding.bytes());
             step.machine = numbered_machine();
@@ -189,5 +214,5 @@ fn every_mask_bit() {
             watched.step(&step);
         }
     }
-    watched.finish(9_216, &[0]);
+    watched.finish(18_432, &[0]);
 }

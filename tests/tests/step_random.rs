@@ -13,12 +13,12 @@ use ridgecrook_tests::random_step::Steps;
 const SEED: u64 = 20_240_301;
 
 /// Fewer steps than this may miss something without a fault.
-const ENOUGH: u64 = 100_000;
+const ENOUGH: u64 = 200_000;
 
 #[test]
 fn random_steps_reach_everything_and_agree() {
     let seed = setting("RIDGECROOK_SEED", SEED);
-    let count = setting("RIDGECROOK_STEPS", 160_000);
+    let count = setting("RIDGECROOK_STEPS", 320_000);
     let name = format!("steps at random, seed {seed}");
     let mut watched = Watched::of(library::step_outcome, &name);
     let mut steps = Steps::seeded(seed);

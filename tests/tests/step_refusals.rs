@@ -1,5 +1,5 @@
-//! Refusals (R4.2 to R4.14): each alone, each before every later one, every cut, every opcode, map,
-//! prefix and W.
+//! Refusals (R4.2 to R4.14): each alone, each before every later one, of a packed row and of a
+//! scalar one; every cut, every opcode, map, prefix and W.
 //!
 //! No step gives answer 6 (R4.12): `step_random` fails if it is ever seen.
 
@@ -8,7 +8,10 @@ use ridgecrook_tests::compare::failure;
 use ridgecrook_tests::coverage::Watched;
 use ridgecrook_tests::library;
 use ridgecrook_tests::machine::{Answer, Machine, Step, StepOutcome};
-use ridgecrook_tests::second::{self, encoding::LIST};
+use ridgecrook_tests::second::{
+    self,
+    encoding::{scalar_rows, Listed, LIST, PACKED},
+};
 
 /// Something that calls for a refusal. The bytes are cut after all else is done to them.
 struct Condition {
@@ -17,6 +20,8 @@ struct Condition {
     /// How many of the bytes are left, where that is the condition.
     kept: Option<usize>,
     spoil: fn(&mut Step),
+    /// Whether it is one of a packed row, and of a scalar one.
+    of: [bool; 2],
 }
 
 const fn cut(name: &'static str, kept: usize) -> Condition {
@@ -25,6 +30,7 @@ const fn cut(name: &'static str, kept: usize) -> Condition {
         number: 3,
         kept: Some(kept),
         spoil: |_| (),
+        of: [true, true],
     }
 }
 
@@ -34,6 +40,23 @@ const fn spoiled(name: &'static str, number: u32, spoil: fn(&mut Step)) -> Condi
         number,
         kept: None,
         spoil,
+        of: [true, true],
+    }
+}
+
+impl Condition {
+    const fn of_packed(self) -> Condition {
+        Condition {
+            of: [true, false],
+            ..self
+        }
+    }
+
+    const fn of_scalar(self) -> Condition {
+        Condition {
+            of: [false, true],
+            ..self
+        }
     }
 }
 
@@ -68,7 +91,7 @@ const CONDITIONS: [&[Condition]; 11] = [
     ],
     &[
         spoiled("an unlisted map", 4, |step| step.code[1] ^= 4),
-        spoiled("an unlisted prefix", 4, |step| step.code[2] ^= 2),
+        spoiled("an unlisted prefix", 4, |step| step.code[2] ^= 1),
         spoiled("W", 4, |step| step.code[2] |= 0x80),
         spoiled("an unlisted opcode", 4, |step| step.code[4] ^= 2),
     ],
@@ -78,11 +101,14 @@ const CONDITIONS: [&[Condition]; 11] = [
         spoiled("a first source in V'", 5, |step| {
             step.code[3] &= !8;
             step.code[4] ^= 0x09;
-        }),
+        })
+        .of_packed(),
         spoiled("a first source in vvvv", 5, |step| {
             step.code[2] &= !8;
             step.code[4] ^= 0x09;
-        }),
+        })
+        .of_packed(),
+        spoiled("b in memory form", 5, |step| step.code[3] |= 0x10).of_scalar(),
     ],
     &[
         cut("no SIB", 6),
@@ -90,7 +116,8 @@ const CONDITIONS: [&[Condition]; 11] = [
         cut("half a displacement", 10),
     ],
     &[
-        spoiled("lane 1 outside memory", 7, |step| step.memory.truncate(2)),
+        spoiled("lane 1 outside memory", 7, |step| step.memory.truncate(2)).of_packed(),
+        spoiled("memory of one byte", 7, |step| step.memory.truncate(1)),
         spoiled("memory of no bytes", 7, |step| step.memory.clear()),
     ],
     // Lane 0 is invalid; no lane is before or after it in another way.
@@ -99,11 +126,15 @@ const CONDITIONS: [&[Condition]; 11] = [
     })],
 ];
 
-/// VADDPH, 32 lanes, no mask, at SIB and 32-bit displacement (11 bytes). Lane 0 of the r/m operand
-/// is a signalling NaN, which is invalid by addition and by root.
-fn good() -> Step {
-    let encoding = Encoding::memory(&LIST[0], 0, 4, &[0x25, 0, 0, 0, 0]);
-    let mut memory = vec![0; 64];
+/// VADDPH and VADDSH.
+const ROWS: [&Listed; 2] = [&LIST[0], &LIST[PACKED]];
+
+/// One of them, by its number, with the length bits of 32 lanes, no mask, at SIB and 32-bit
+/// displacement (11 bytes). Lane 0 of the r/m operand is a signalling NaN, which is invalid by
+/// addition and by root. The scalar row has no memory but this word.
+fn good(row: usize) -> Step {
+    let encoding = Encoding::memory(ROWS[row], 0, 4, &[0x25, 0, 0, 0, 0]);
+    let mut memory = vec![0; [64, 2][row]];
     memory[..2].copy_from_slice(&0x7C01_u16.to_le_bytes());
     Step {
         machine: Machine::blank(),
@@ -112,8 +143,8 @@ fn good() -> Step {
     }
 }
 
-fn with(conditions: &[&Condition]) -> Step {
-    let mut step = good();
+fn with(row: usize, conditions: &[&Condition]) -> Step {
+    let mut step = good(row);
     for condition in conditions {
         (condition.spoil)(&mut step);
     }
@@ -138,17 +169,23 @@ fn check(names: &str, before: &Step, number: u32) {
     }
 }
 
+/// The conditions of a group that a row has.
+fn of_row(group: &'static [Condition], row: usize) -> impl Iterator<Item = &'static Condition> {
+    group.iter().filter(move |condition| condition.of[row])
+}
+
 #[test]
 fn each_condition_is_refused() {
-    assert_eq!(
-        second::step(&good()).answer,
-        Answer {
-            number: 0,
-            length: 11
+    let done = Answer {
+        number: 0,
+        length: 11,
+    };
+    for row in 0..ROWS.len() {
+        assert_eq!(second::step(&good(row)).answer, done);
+        assert_eq!(library::step_outcome(&good(row)).answer, done);
+        for condition in CONDITIONS.iter().flat_map(|group| of_row(group, row)) {
+            check(condition.name, &with(row, &[condition]), condition.number);
         }
-    );
-    for condition in CONDITIONS.iter().flat_map(|group| group.iter()) {
-        check(condition.name, &with(&[condition]), condition.number);
     }
 }
 
@@ -160,43 +197,77 @@ fn can_meet(earlier: &Condition, later: &Condition) -> bool {
         "byte 0" => 0,
         "byte 1 bit 3" | "an unlisted map" => 1,
         "byte 2 bit 2" | "an unlisted prefix" | "W" => 2,
-        "length bits 11" | "zeroing without a mask" => 3,
+        "length bits 11" | "zeroing without a mask" | "b in memory form" => 3,
         "an unlisted opcode" | "a first source in V'" | "a first source in vvvv" => 4,
         _ => return true,
     };
     earlier.kept.is_none_or(|kept| kept > place)
 }
 
-/// Of two conditions at once the earlier is answered, whichever two they are; neighbours are among
-/// them.
-#[test]
-fn the_earlier_of_two_is_answered() {
+/// Of two conditions of a row at once the earlier is answered; how many pairs there are.
+fn answer_the_earlier(row: usize) -> u32 {
     let mut pairs = 0;
     for (place, group) in CONDITIONS.iter().enumerate() {
         for later_group in &CONDITIONS[place + 1..] {
-            let both = group
-                .iter()
-                .flat_map(|a| later_group.iter().map(move |b| (a, b)));
+            let both =
+                of_row(group, row).flat_map(|a| of_row(later_group, row).map(move |b| (a, b)));
             for (earlier, later) in both.filter(|(a, b)| can_meet(a, b)) {
                 let names = format!("{} and {}", earlier.name, later.name);
-                check(&names, &with(&[earlier, later]), earlier.number);
+                check(&names, &with(row, &[earlier, later]), earlier.number);
                 pairs += 1;
             }
         }
     }
-    assert_eq!(pairs, 254, "the pairs that can meet");
+    pairs
 }
 
-/// All of them from some place on, without later cuts, which would take away what is spoiled.
+/// Whichever two they are; neighbours are among them.
+#[test]
+fn the_earlier_of_two_is_answered() {
+    let pairs = [0, 1].map(answer_the_earlier);
+    assert_eq!(pairs, [277, 237], "the pairs that can meet");
+}
+
+/// All of them from some place on, the first of each group or the last, without later cuts, which
+/// would take away what is spoiled.
 #[test]
 fn the_first_of_many_is_answered() {
-    for place in 0..CONDITIONS.len() {
-        let from_here = CONDITIONS[place..].iter().map(|group| &group[0]);
+    for i in 0..4 * CONDITIONS.len() {
+        let (row, last, place) = (i % 2, i / 2 % 2 == 1, i / 4);
+        let of_group = |group: &&'static [Condition]| match last {
+            true => of_row(group, row).last(),
+            false => of_row(group, row).next(),
+        };
+        let from_here = CONDITIONS[place..].iter().filter_map(of_group);
         let counted = from_here.enumerate();
         let chosen = counted.filter(|(later, condition)| *later == 0 || condition.kept.is_none());
         let conditions: Vec<&Condition> = chosen.map(|(_, condition)| condition).collect();
         let first = conditions[0];
-        check(first.name, &with(&conditions), first.number);
+        check(first.name, &with(row, &conditions), first.number);
+    }
+}
+
+/// R4.10: b in memory form of a scalar row, with any length bits, z and aaa, at any mod, with all
+/// bytes and with none behind ModRM, with memory and without.
+#[test]
+fn every_scalar_row_with_b_in_memory() {
+    for listed in scalar_rows() {
+        for place in 0..4 * 2 * 8 * 3 * 8_u32 {
+            let encoding = Encoding {
+                extra: 1,
+                length: place as u8 & 3,
+                zeroing: (place >> 2) as u8 & 1,
+                mask: (place >> 3) as u8 & 7,
+                ..Encoding::memory(listed, (place >> 9) as u8, (place >> 6) as u8 & 7, &[0; 5])
+            };
+            let mut step = Step::of(encoding.bytes());
+            step.machine.masks = [1; 8];
+            check("b in memory form, no memory", &step, 5);
+            step.memory = vec![0x3C; 16];
+            check("b in memory form", &step, 5);
+            step.code.truncate(6);
+            check("b in memory form, cut", &step, 5);
+        }
     }
 }
 
@@ -219,7 +290,7 @@ fn every_cut() {
             }
         }
     }
-    watched.finish(147_456, &[0, 3, 7]);
+    watched.finish(294_912, &[0, 3, 7]);
 }
 
 /// Every opcode in every map, with every prefix and W, in register and memory form.
@@ -248,10 +319,11 @@ fn every_opcode() {
         }
     }
     watched.finish(32_768, &[0, 4]);
-    assert_eq!(done, 16, "eight instructions, two forms");
+    assert_eq!(done, 32, "sixteen instructions, two forms");
 }
 
-/// Each of the first four bytes with every value, in register, memory and broadcast form.
+/// Each of the first four bytes with every value, in register, memory and broadcast form, of which
+/// a scalar row has not the last.
 #[test]
 fn every_prefix_byte() {
     let mut watched = Watched::of(library::step_outcome, "every prefix byte");
@@ -270,7 +342,7 @@ fn every_prefix_byte() {
             }
         }
     }
-    watched.finish(32_768, &[0, 4, 5, 7]);
+    watched.finish(65_536, &[0, 4, 5, 7]);
 }
 
 /// Vector files of other sizes and control words with any high bit are refused, and left alone.
@@ -279,12 +351,12 @@ fn sizes_and_control_words() {
     for size in [
         0, 1, 2, 63, 64, 1024, 2046, 2047, 2049, 2050, 4095, 4096, 65_536,
     ] {
-        let mut step = good();
+        let mut step = good(0);
         step.machine.vectors = (0..size).map(|place| place as u8).collect();
         check("a size", &step, 1);
     }
     for bit in 16..32 {
-        let mut step = good();
+        let mut step = good(1);
         step.machine.control = 1 << bit | 0x9FFF;
         check("a control word", &step, 2);
         step.machine.control = 1 << bit;

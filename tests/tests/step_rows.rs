@@ -1,13 +1,7 @@
-//! Steps that a person wrote, one row each, held against the second program and the library. A
-//! step is written as `step_line` prints it; behind it stand the answer's number and length and
-//! what the step changes, and nothing else may change. The examples of docs/RULES.md are in
-//! `rules.rs`.
+//! Steps of packed rows that a person wrote (`rows.rs` says how). Those of scalar rows are in
+//! `scalar_rows.rs`, the examples of docs/RULES.md in `rules.rs`.
 
-use ridgecrook_tests::machine::{Step, StepOutcome};
-use ridgecrook_tests::step_line::shown_outcome;
-use ridgecrook_tests::{library, second};
-
-type Row = (&'static str, &'static str);
+use ridgecrook_tests::rows::{check, Row};
 
 /// R12.1: the examples marked *, each as lane 0 of a step.
 const STARRED: &[Row] = &[
@@ -385,28 +379,26 @@ const PLACES: &[Row] = &[
     ("code=62F53C4851C2 z2=4000x32", "5 0"),
 ];
 
-fn failures(rows: &[Row], name: &str, step: fn(&Step) -> StepOutcome) -> usize {
-    let mut failed = 0;
-    for (line, expected) in rows {
-        let before: Step = format!("step {line}").parse().expect(line);
-        let shown = shown_outcome(&before, &step(&before));
-        if shown != *expected {
-            failed += 1;
-            eprintln!("{name}: {before} => {shown} expected {expected}");
-        }
-    }
-    failed
-}
-
-fn check(rows: &[Row]) {
-    let by_second = failures(rows, "second program", second::step);
-    let by_library = failures(rows, "library", library::step_outcome);
-    assert_eq!((by_second, by_library), (0, 0), "second program, library");
-}
-
 #[test]
 fn starred_rows() {
     check(STARRED);
+}
+
+/// A starred row as one of a scalar row: prefix F3 in byte 2, or the opcode one higher. Its other
+/// lanes are 0 in every register, so the same becomes of it.
+fn scalar_form(line: &str) -> String {
+    let bytes = [("62F574", "62F576"), ("62F57C", "62F57E"), ("B8C2", "B9C2")];
+    let changed = bytes.iter().find(|(packed, _)| line.contains(packed));
+    let (packed, scalar) = changed.expect("bytes of a starred row");
+    line.replacen(packed, scalar, 1)
+}
+
+#[test]
+fn starred_rows_of_scalar_forms() {
+    let lines: Vec<String> = STARRED.iter().map(|(line, _)| scalar_form(line)).collect();
+    let expected = STARRED.iter().map(|(_, expected)| *expected);
+    let rows: Vec<(&str, &str)> = lines.iter().map(String::as_str).zip(expected).collect();
+    check(&rows);
 }
 
 #[test]

@@ -1,11 +1,13 @@
 //! Holds the second program's decoder against GNU objdump on random valid instructions: names,
-//! operands, masks, rounding and lengths. `cargo run --release --bin objdump_check`. The last line
-//! is `N passed, M failed`; where there is no objdump that knows AVX512-FP16, a line says that the
-//! check was skipped, and N is 0.
+//! operands, masks, rounding and lengths; and, of every row with every byte 3, whether it is
+//! reserved (R4.10). `cargo run --release --bin objdump_check`. The last line is `N passed, M
+//! failed`; where there is no objdump that knows AVX512-FP16, a line says that the check was
+//! skipped, and N is 0.
 
+use ridgecrook_tests::assemble::Encoding;
 use ridgecrook_tests::compare::setting;
 use ridgecrook_tests::random_step::Steps;
-use ridgecrook_tests::second::encoding::{decode, Address, Base, Instruction, Second, Source};
+use ridgecrook_tests::second::encoding::{decode, Address, Base, Instruction, Second, LIST};
 use std::process::{exit, Command};
 
 const GENERAL: [&str; 16] = [
@@ -39,10 +41,45 @@ fn main() {
         }
         at += instruction.length;
     }
-    println!("{} passed, {failed} failed", count - failed);
-    if failed > 0 || lines.len() != codes.len() {
+    let (tried, wrong) = reserved();
+    println!(
+        "{} passed, {} failed",
+        count + tried - failed - wrong,
+        failed + wrong
+    );
+    if failed + wrong > 0 || lines.len() != codes.len() {
         exit(1);
     }
+}
+
+/// Every row with every byte 3, in register and in memory form: how many, and of how many objdump
+/// and the decoder differ over whether they are reserved. Each stands 16 bytes behind the one
+/// before, with NOPs between, so that what objdump makes of a bad one ends before the next. V' of a
+/// row without a first source is left out: objdump does not look at it.
+fn reserved() -> (u64, u64) {
+    let mut codes = Vec::new();
+    for place in 0..LIST.len() * 512 {
+        let (row, modrm) = (&LIST[place / 512], [0xC2, 0x00][place / 256 % 2]);
+        let mut code = Encoding::registers(row, 0, 0, 2).bytes();
+        (code[3], code[5]) = (place as u8, modrm);
+        code.resize(16, 0x90);
+        if row.takes_first() || code[3] & 8 != 0 {
+            codes.push(code);
+        }
+    }
+    let mut lines = disassembled(&codes.concat()).into_iter();
+    let mut wrong = 0;
+    for (place, code) in codes.iter().enumerate() {
+        let start = format!("{:x}: ", 16 * place);
+        let line = lines.find(|line| line.starts_with(&start));
+        let line = line.unwrap_or_default();
+        let is_bad = line.contains("(bad)") || line.contains("{bad}");
+        if is_bad != (decode(code).err() == Some(5)) {
+            wrong += 1;
+            println!("{:02X?} => {line}", &code[..6]);
+        }
+    }
+    (codes.len() as u64, wrong)
 }
 
 /// What objdump writes of some bytes: `address: text`, a line for each instruction; nothing where
@@ -105,7 +142,7 @@ fn written(instruction: &Instruction) -> String {
     if instruction.zeroing {
         text += "{z}";
     }
-    if instruction.listed.operands.contains(&Source::First) {
+    if instruction.listed.takes_first() {
         text += &format!(",{}", register(instruction, instruction.first));
     }
     text += ",";
@@ -121,9 +158,10 @@ fn written(instruction: &Instruction) -> String {
     text
 }
 
+/// One element stands in an xmm register, whatever the length bits say.
 fn letter(instruction: &Instruction) -> char {
-    match instruction.lanes {
-        8 => 'x',
+    match instruction.elements {
+        1 | 8 => 'x',
         16 => 'y',
         _ => 'z',
     }
@@ -134,10 +172,10 @@ fn register(instruction: &Instruction, number: usize) -> String {
 }
 
 fn memory(instruction: &Instruction, address: &Address, broadcast: bool) -> String {
-    let size = if broadcast {
-        "WORD BCST".to_string()
-    } else {
-        format!("{}MMWORD PTR", letter(instruction).to_ascii_uppercase())
+    let size = match instruction.elements {
+        _ if broadcast => "WORD BCST".to_string(),
+        1 => "WORD PTR".to_string(),
+        _ => format!("{}MMWORD PTR", letter(instruction).to_ascii_uppercase()),
     };
     let base = match address.base {
         Base::None => None,

@@ -20,7 +20,8 @@ use std::time::Instant;
 
 const SEED: u64 = 20_240_302;
 
-/// Fewer steps than this may miss an answer or a difference without a fault.
+/// Fewer steps than this, which go once round the grid, may miss an answer or a difference without
+/// a fault.
 const ENOUGH: u64 = 50_000;
 
 /// How many failures are printed; all are counted.
@@ -39,7 +40,7 @@ fn main() {
     match std::env::args().nth(1).as_deref() {
         None => compare(&mut processor, seed, setting("RIDGECROOK_STEPS", 100_000)),
         Some("--record") => recorded::write(&mut processor, seed),
-        Some("--faults") => faults(&mut processor, seed, setting("RIDGECROOK_STEPS", 20_000)),
+        Some("--faults") => faults(&mut processor, seed, setting("RIDGECROOK_STEPS", ENOUGH)),
         Some(other) => {
             eprintln!("{other}: the options are --record and --faults");
             exit(2);

@@ -13,14 +13,29 @@ pub struct Listed {
     pub operation: Operation,
     /// The operands in the order of the operation (R6.6).
     pub operands: &'static [Source],
+    /// R5.10: what gives a scalar row its lanes 1 to 7; a packed row has none.
+    pub upper: Option<Source>,
 }
 
-#[derive(Clone, Copy, PartialEq, Eq)]
+#[derive(Clone, Copy, Debug, PartialEq, Eq)]
 pub enum Source {
     Destination,
     First,
     /// The r/m operand.
     Second,
+}
+
+impl Listed {
+    /// R3.7: with one element, whatever the length bits say.
+    pub fn is_scalar(&self) -> bool {
+        self.upper.is_some()
+    }
+
+    /// R2.2: whether the five first-source bits name a register that is read: every row's but
+    /// VSQRTPH's.
+    pub fn takes_first(&self) -> bool {
+        self.operands.contains(&Source::First) || self.upper == Some(Source::First)
+    }
 }
 
 const fn plain(name: &'static str, opcode: u8, operation: Operation) -> Listed {
@@ -36,6 +51,7 @@ const fn plain(name: &'static str, opcode: u8, operation: Operation) -> Listed {
         opcode,
         operation,
         operands,
+        upper: None,
     }
 }
 
@@ -48,39 +64,65 @@ const fn fused(name: &'static str, opcode: u8, operands: &'static [Source]) -> L
         opcode,
         operation: Operation::FusedMultiplyAdd,
         operands,
+        upper: None,
     }
 }
 
-pub const LIST: [Listed; 8] = [
+/// F3 in the place of no prefix; lanes 1 to 7 come from the first source.
+const fn scalar(name: &'static str, opcode: u8, operation: Operation) -> Listed {
+    Listed {
+        prefix: 2,
+        upper: Some(Source::First),
+        ..plain(name, opcode, operation)
+    }
+}
+
+/// The prefix of the packed one; lanes 1 to 7 stay the destination's.
+const fn scalar_fused(name: &'static str, opcode: u8, operands: &'static [Source]) -> Listed {
+    Listed {
+        upper: Some(Source::Destination),
+        ..fused(name, opcode, operands)
+    }
+}
+
+/// Multiplicand, multiplier, addend.
+const ORDER_132: &[Source] = &[Source::Destination, Source::Second, Source::First];
+const ORDER_213: &[Source] = &[Source::First, Source::Destination, Source::Second];
+const ORDER_231: &[Source] = &[Source::First, Source::Second, Source::Destination];
+
+/// How many of the list are packed; they stand first.
+pub const PACKED: usize = 8;
+
+pub const LIST: [Listed; 16] = [
     plain("vaddph", 0x58, Operation::Add),
     plain("vmulph", 0x59, Operation::Multiply),
     plain("vsubph", 0x5C, Operation::Subtract),
     plain("vdivph", 0x5E, Operation::Divide),
     plain("vsqrtph", 0x51, Operation::SquareRoot),
-    // Multiplicand, multiplier, addend.
-    fused(
-        "vfmadd132ph",
-        0x98,
-        &[Source::Destination, Source::Second, Source::First],
-    ),
-    fused(
-        "vfmadd213ph",
-        0xA8,
-        &[Source::First, Source::Destination, Source::Second],
-    ),
-    fused(
-        "vfmadd231ph",
-        0xB8,
-        &[Source::First, Source::Second, Source::Destination],
-    ),
+    fused("vfmadd132ph", 0x98, ORDER_132),
+    fused("vfmadd213ph", 0xA8, ORDER_213),
+    fused("vfmadd231ph", 0xB8, ORDER_231),
+    scalar("vaddsh", 0x58, Operation::Add),
+    scalar("vmulsh", 0x59, Operation::Multiply),
+    scalar("vsubsh", 0x5C, Operation::Subtract),
+    scalar("vdivsh", 0x5E, Operation::Divide),
+    scalar("vsqrtsh", 0x51, Operation::SquareRoot),
+    scalar_fused("vfmadd132sh", 0x99, ORDER_132),
+    scalar_fused("vfmadd213sh", 0xA9, ORDER_213),
+    scalar_fused("vfmadd231sh", 0xB9, ORDER_231),
 ];
+
+pub fn scalar_rows() -> &'static [Listed] {
+    &LIST[PACKED..]
+}
 
 pub struct Instruction {
     pub listed: &'static Listed,
     pub destination: usize,
     pub first: usize,
     pub second: Second,
-    pub lanes: usize,
+    /// R3.7: how many of the lanes have an element, from lane 0 on.
+    pub elements: usize,
     /// The mode of embedded rounding; without it the control word has the mode.
     pub embedded_mode: Option<u32>,
     pub mask: usize,
@@ -142,11 +184,15 @@ pub fn decode(code: &[u8]) -> Result<Instruction, u32> {
     // R4.9: no row
     let listed = find(code).ok_or(4_u32)?;
     // R4.10: reserved forms
-    if has_reserved_length(code) || zeroes_without_mask(code) || has_needless_first(listed, code) {
+    if has_reserved_length(code)
+        || zeroes_without_mask(code)
+        || has_needless_first(listed, code)
+        || broadcasts_one_element(listed, code)
+    {
         return Err(5);
     }
     // R4.11: bytes that are not there
-    let (second, length) = second_source(code).ok_or(3_u32)?;
+    let (second, length) = second_source(listed, code).ok_or(3_u32)?;
     Ok(fields(listed, code, second, length))
 }
 
@@ -156,7 +202,7 @@ fn fields(listed: &'static Listed, code: &[u8], second: Second, length: usize) -
         destination: destination(code),
         first: first_source(code),
         second,
-        lanes: lanes(code),
+        elements: elements(listed, code),
         embedded_mode: is_embedded_rounding(code).then(|| u32::from(length_bits(code))),
         mask: mask(code),
         zeroing: bit(code[3], 7) == 1,
@@ -164,8 +210,8 @@ fn fields(listed: &'static Listed, code: &[u8], second: Second, length: usize) -
     }
 }
 
-/// R4.9: the row with the prefix, map, W and opcode of the bytes.
-fn find(code: &[u8]) -> Option<&'static Listed> {
+/// R4.9: the row with the prefix, map, W and opcode of the bytes, of which there are to be six.
+pub fn find(code: &[u8]) -> Option<&'static Listed> {
     let (map, prefix, w, opcode) = (code[1] & 7, code[2] & 3, bit(code[2], 7), code[4]);
     LIST.iter()
         .find(|row| row.prefix == prefix && row.map == map && row.w == w && row.opcode == opcode)
@@ -199,13 +245,18 @@ fn zeroes_without_mask(code: &[u8]) -> bool {
 
 /// R4.10: VSQRTPH has no first source, so its five bits must stand for number 0.
 fn has_needless_first(listed: &Listed, code: &[u8]) -> bool {
-    let takes_first = listed.operands.contains(&Source::First);
-    !takes_first && first_source(code) != 0
+    !listed.takes_first() && first_source(code) != 0
 }
 
-/// R3.7, R3.8: by the length bits, but 32 with embedded rounding.
-fn lanes(code: &[u8]) -> usize {
+/// R4.10: b in memory form, of a scalar row.
+fn broadcasts_one_element(listed: &Listed, code: &[u8]) -> bool {
+    listed.is_scalar() && !is_register_form(code) && bit(code[3], 4) == 1
+}
+
+/// R3.7, R3.8: one of a scalar row, and else by the length bits, but 32 with embedded rounding.
+fn elements(listed: &Listed, code: &[u8]) -> usize {
     match length_bits(code) {
+        _ if listed.is_scalar() => 1,
         _ if is_embedded_rounding(code) => 32,
         0 => 8,
         1 => 16,
@@ -233,7 +284,7 @@ fn b(code: &[u8]) -> usize {
 }
 
 /// The r/m operand and the length of the instruction; none where bytes are missing.
-fn second_source(code: &[u8]) -> Option<(Second, usize)> {
+fn second_source(listed: &Listed, code: &[u8]) -> Option<(Second, usize)> {
     let (mode, rm) = (code[5] >> 6, code[5] & 7);
     // R3.6: a register
     if mode == 3 {
@@ -248,7 +299,7 @@ fn second_source(code: &[u8]) -> Option<(Second, usize)> {
         (from_rm(code), None)
     };
     let at = if takes_sib { 7 } else { 6 };
-    let (displacement, displacement_bytes) = displacement(code, at, base)?;
+    let (displacement, displacement_bytes) = displacement(listed, code, at, base)?;
     let address = Address {
         base,
         index,
@@ -288,7 +339,7 @@ fn from_sib(code: &[u8], sib: u8) -> (Base, Option<(usize, u64)>) {
 
 /// The displacement that begins at a byte, and how many bytes it has; none where one is missing.
 /// R3.12: mod 0 has four bytes where no register is the base.
-fn displacement(code: &[u8], at: usize, base: Base) -> Option<(i64, usize)> {
+fn displacement(listed: &Listed, code: &[u8], at: usize, base: Base) -> Option<(i64, usize)> {
     let mode = code[5] >> 6;
     let is_long = mode == 2 || mode == 0 && !matches!(base, Base::General(_));
     if is_long {
@@ -298,11 +349,11 @@ fn displacement(code: &[u8], at: usize, base: Base) -> Option<(i64, usize)> {
     if mode == 0 {
         return Some((0, 0));
     }
-    // R3.13: N
+    // R3.13: N, which is 2 of a scalar row
     let n = if bit(code[3], 4) == 1 {
         2
     } else {
-        2 * lanes(code) as i64
+        2 * elements(listed, code) as i64
     };
     let byte = *code.get(at)? as i8;
     Some((i64::from(byte) * n, 1))

@@ -39,18 +39,18 @@ fn carry_out(before: &Step, machine: &mut Machine) -> Result<u32, u32> {
     Ok(length)
 }
 
-/// R5.1: within the lanes, and not masked off.
+/// R5.1: a lane with an element, and not masked off.
 pub fn is_on(machine: &Machine, instruction: &Instruction, lane: usize) -> bool {
-    let in_length = lane < instruction.lanes;
+    let has_element = lane < instruction.elements;
     let mask = instruction.mask;
-    in_length && (mask == 0 || machine.masks[mask] >> lane & 1 == 1)
+    has_element && (mask == 0 || machine.masks[mask] >> lane & 1 == 1)
 }
 
 /// The operands of each lane that is on, in the operation's order; none where a word that such a
 /// lane needs lies outside memory (R5.7). For lanes that are off nothing is read (R5.2).
 fn gather(before: &Step, instruction: &Instruction) -> Option<Vec<Option<[u16; 3]>>> {
     let mut all = Vec::new();
-    for lane in 0..instruction.lanes {
+    for lane in 0..instruction.elements {
         if !is_on(&before.machine, instruction, lane) {
             all.push(None);
             continue;
@@ -185,21 +185,30 @@ pub fn unmasked(machine: &Machine, instruction: &Instruction) -> u8 {
     }
 }
 
-/// R5.9: by lanes, of which those above the vector become 0.
+/// R5.9, R5.10: every lane of the destination anew, from what stood there before any was written.
 fn write_destination(
     machine: &mut Machine,
     instruction: &Instruction,
     outcomes: &[Option<Outcome>],
 ) {
-    let destination = instruction.destination;
-    for lane in 0..REGISTER_SIZE / 2 {
-        let old = machine.lane(destination, lane);
-        let half = match outcomes.get(lane) {
-            Some(Some(outcome)) => outcome.half,
-            Some(None) if instruction.zeroing => 0,
-            Some(None) => old,
-            None => 0,
-        };
-        machine.set_lane(destination, lane, half);
+    let half = |lane: usize| match outcomes.get(lane) {
+        Some(Some(outcome)) => outcome.half,
+        Some(None) if instruction.zeroing => 0,
+        Some(None) => machine.lane(instruction.destination, lane),
+        None => half_without_element(machine, instruction, lane),
+    };
+    let halves: Vec<u16> = (0..REGISTER_SIZE / 2).map(half).collect();
+    for (lane, half) in halves.into_iter().enumerate() {
+        machine.set_lane(instruction.destination, lane, half);
+    }
+}
+
+/// R5.10: of a scalar row lanes 1 to 7 are copied, whatever the mask and z say. R5.9: all others
+/// become 0.
+fn half_without_element(machine: &Machine, instruction: &Instruction, lane: usize) -> u16 {
+    match instruction.listed.upper {
+        Some(Source::First) if lane < 8 => machine.lane(instruction.first, lane),
+        Some(Source::Destination) if lane < 8 => machine.lane(instruction.destination, lane),
+        _ => 0,
     }
 }

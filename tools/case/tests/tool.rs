@@ -114,14 +114,18 @@ fn what_is_made_runs() {
     let (input, _) = made("division", division);
     let known = "0 0 00000f80\n6 8 00000fa0\nstop 6\n";
     assert_eq!(run(&input, "division-run"), known);
-    for (size, known) in [
-        (66, "0 0 00001f80\nstop 6\n"),
-        (65, "0 7 00001f80\nstop 0\n"),
+    // zmm0 = zmm1 + what stands at RAX, in all lanes and in lane 0
+    let [packed, scalar] = ["62 F5 74 48 58 00", "62 F5 76 08 58 00"];
+    let [done, outside] = ["0 0 00001f80\nstop 6\n", "0 7 00001f80\nstop 0\n"];
+    for (code, size, known) in [
+        (packed, 66, done),
+        (packed, 65, outside),
+        (scalar, 4, done),
+        (scalar, 3, outside),
     ] {
-        // zmm0 = zmm1 + what stands at RAX
-        let content = format!("rax 2\ncode 62 F5 74 48 58 00\nmemory zeros {size}\n");
+        let content = format!("rax 2\ncode {code}\nmemory zeros {size}\n");
         let (input, _) = made("memory", &content);
-        assert_eq!(run(&input, "memory-run"), known, "{size}");
+        assert_eq!(run(&input, "memory-run"), known, "{code}, {size}");
     }
 }
 
@@ -135,7 +139,7 @@ fn the_example() {
     let notes = text(&output.stderr);
     assert_eq!(notes.lines().count(), 1, "{notes}");
     assert!(notes.contains("0.1 is no half; the nearest is 0.0999755859375 (0x2E66)"));
-    let known = "0 0 00001fba\n6 0 00001fba\n12 0 00001fba\nstop 18\n";
+    let known = "0 0 00001fba\n6 0 00001fba\n12 0 00001fba\n18 0 00001fba\nstop 24\n";
     assert_eq!(run(&output.stdout, "example-run"), known);
     let again = made("example-again", &shown("example", &output.stdout));
     assert_eq!(again, (output.stdout, String::new()));
@@ -155,6 +159,12 @@ fn assembly_gives_the_bytes() {
         ),
         ("vaddph zmm0{k1}{z}, zmm1, [rax + 64]", "62F574C9584001"),
         ("vsqrtph zmm3, zmm4", "62F57C4851DC"),
+        ("vaddsh xmm0, xmm1, xmm2", "62F5760858C2"),
+        ("vsqrtsh xmm3{k1}, xmm4, xmm5, {ru-sae}", "62F55E5951DD"),
+        (
+            "vfmadd231sh xmm0, xmm4, word ptr [rax + 144]",
+            "62F65D08B94048",
+        ),
     ] {
         let (by_asm, _) = made("asm", &format!("asm {asm} # a remark\ncode 90\n"));
         let (by_code, _) = made("bytes", &format!("code {code} 90\n"));
