@@ -3,12 +3,12 @@
 use mathlib.Core.Path.{_≡_, refl, sym}
 use mathlib.Core.Bool.{Bool, true, false, cond}
 use mathlib.Core.List.{List, [], _∷_, _++_, map}
-use Prim.Native.Nat.{ℕ, _<_, _≤_}
+use Prim.Native.Nat.{ℕ, _+_, _<_, _≤_}
 use borrow.Author.Tests.{ne-eqb, lt-ltb, le-ltb}
 use lib.ListN.{length, drop}
 use Rattle.lists.specs.Lists.{some, firstOf}
 use Rattle.evex.specs.Bits.{byte}
-use Rattle.evex.specs.Fields.{headOf, listed, size, instruction}
+use Rattle.evex.specs.Fields.{headOf, listed, displacementAt, displacementSize, size, instruction}
 use Rattle.evex.specs.Decode.{noBytes, wrongFirstByte, fewerThanSixBytes, wrongFixedBits, notInList, reservedForms, bytesMissing}
 use Rattle.evex.specs.Decode.{headConditions, rowConditions, refusals, fields, decoded}
 use Rattle.evex.specs.declared.head.Head.{Head}
@@ -39,6 +39,11 @@ pub record Rowed (code : List ℕ) (h : Head) (row : Row) : Type 0 where
   pub headed : Headed code h
   pub found : listed h ≡ Found row
   pub plain : isReserved h row ≡ false
+
+-- the length, by its two parts
+pub sized : (h : Head) (row : Row) {at bytes : ℕ} → at ≡ displacementAt h → bytes ≡ displacementSize h → at + bytes ≡ size h row
+unfolding size
+sized h row e f = rw (e, f)
 
 -- ---- conditions with what they give
 

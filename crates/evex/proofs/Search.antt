@@ -1,16 +1,23 @@
 -- A search of the list of instructions: it ends at the first row, or goes on after it.
 -- Assumes nothing.
 use mathlib.Core.Path.{_≡_, refl}
-use mathlib.Core.Bool.{Bool, true, false}
+use mathlib.Core.Bool.{Bool, true, false, _&&_, and-false, true≢false}
 use mathlib.Core.List.{List, [], _∷_}
-use Prim.Native.Nat.{ℕ, _≤_}
-use lib.ListN.{length, drop, drop-of-length-le}
+use Prim.Native.Nat.{ℕ, zero, suc, _+_, _<_, _≤_}
+use native.Mathlib.Numerals.{add-one}
+use lib.Dec.{eqb}
+use lib.ListN.{length, getD, take, drop, drop-of-length-le}
+use lib.Seq.{drop-cons}
 use Rattle.lists.specs.Lists.{some}
 use Rattle.lists.proofs.Tests.{either, neither}
 use Rattle.evex.specs.declared.list.Row.{Row}
 use Rattle.evex.specs.declared.list.Listed.{Listed}
 use Rattle.evex.specs.declared.list.Listed.the-variants.{Found, Nothing}
 use Rattle.evex.specs.List.{isFor, find}
+
+-- a row stands before those behind it
+pub row-before : (l : List Row) (i : ℕ) (d : Row) → i < length l → drop i l ≡ getD l i d ∷ drop (i + 1) l
+row-before l i d h = rw add-one (drop-cons l i d h)
 
 module _ {l m : List Row} {r : Row} (prefix map w opcode : ℕ) (e : l ≡ r ∷ m) where
   pub ends : isFor r prefix map w opcode ≡ true → Found r ≡ find l prefix map w opcode
@@ -21,6 +28,30 @@ module _ {l m : List Row} {r : Row} (prefix map w opcode : ℕ) (e : l ≡ r ∷
 
 pub nothing-left : (l : List Row) (prefix map w opcode i : ℕ) → length l ≤ i → Nothing ≡ find (drop i l) prefix map w opcode
 nothing-left l prefix map w opcode i h = rw (drop-of-length-le l {i = i} h)
+
+-- rows that are passed, since none of them has the opcode, or none has it with the prefix
+pub skips : (l : List Row) (n prefix map w opcode : ℕ) → some (λ row. eqb (row .0) prefix && eqb (row .3) opcode) (take n l) ≡ false
+    → find (drop n l) prefix map w opcode ≡ find l prefix map w opcode
+skips l zero prefix map w opcode e = refl
+skips [] (suc n) prefix map w opcode e = refl
+skips (r ∷ l) (suc n) prefix map w opcode e =
+    let both = neither (eqb (r .0) prefix && eqb (r .3) opcode) (some (λ row. eqb (row .0) prefix && eqb (row .3) opcode) (take n l)) e in
+    rw (not-it (eqb (r .0) prefix) (eqb (r .1) map) (eqb (r .2) w) (eqb (r .3) opcode) (both .0)) (skips l n prefix map w opcode (both .1))
+  where
+    not-it : (a b c d : Bool) → (a && d) ≡ false → (a && b && c && d) ≡ false
+    not-it true b c true e = absurd (true≢false e)
+    not-it true true true false e = refl
+    not-it true true false false e = refl
+    not-it true false c false e = refl
+    not-it false b c d e = refl
+
+-- no row has the opcode, so none has it with a prefix
+pub without : (l : List Row) (prefix opcode : ℕ) → some (λ row. eqb (row .3) opcode) l ≡ false
+    → some (λ row. eqb (row .0) prefix && eqb (row .3) opcode) l ≡ false
+without [] prefix opcode e = refl
+without (r ∷ l) prefix opcode e =
+    let both = neither (eqb (r .3) opcode) (some (λ row. eqb (row .3) opcode) l) e in
+    rw (both .0, and-false (eqb (r .0) prefix)) (without l prefix opcode (both .1))
 
 -- what passes a test that no row passes: nothing that is found
 abbrev pub passesTest : (Row → Bool) → Listed → Bool

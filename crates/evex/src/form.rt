@@ -2,7 +2,7 @@
 ghost use mathlib.Core.Path.{_≡_};
 ghost use Prim.Native.Nat.{_≤_};
 ghost use Rattle.lists.specs.Lists.{some};
-ghost use Rattle.evex.specs.Fields.{first, elements, rounding, size, N, displacementOf, instruction};
+ghost use Rattle.evex.specs.Fields.{displacementAt, displacementSize, first, elements, rounding, N, displacementOf, instruction};
 ghost use Rattle.evex.specs.Decode.{extraSource, scalarBroadcast, reservedForms};
 use super::Instruction;
 use super::Rounding;
@@ -49,13 +49,6 @@ fn rounding(head: Head, row: Row) -> Rounding
     Rounding::Control
 }
 
-// R3.14: the instruction's length in bytes.
-pub(crate) fn size(head: Head, row: Row) -> usize
-    ensures { λ r. ⌜ r ≡ size head row ⌝ }
-{
-    head.displacement_at() + head.displacement_size()
-}
-
 // R3.13: N.
 fn unit(head: Head, row: Row) -> u8
     ensures { λ r. ⌜ r ≡ N head row ⌝ }
@@ -66,12 +59,11 @@ fn unit(head: Head, row: Row) -> u8
     2 * elements(head, row)
 }
 
-// The displacement, 0 where there is none (R3.12).
-fn displacement(head: Head, row: Row, code: &[u8]) -> i32
+// The displacement, 0 where there is none (R3.12). Where it stands and how many bytes it has is known by now.
+fn displacement(head: Head, row: Row, code: &[u8], at: usize, bytes: usize) -> i32
+    requires { ⌜ (at ≡ displacementAt head) × (bytes ≡ displacementSize head) × (at ≤ 7) ⌝ }
     ensures { λ r. ⌜ r ≡ displacementOf head row (now (code .entry)) ⌝ }
 {
-    let at = head.displacement_at();
-    let bytes = head.displacement_size();
     if bytes == 1 {
         return scaled(signed8(byte_at(code, at)), unit(head, row));
     }
@@ -81,14 +73,15 @@ fn displacement(head: Head, row: Row, code: &[u8]) -> i32
     0
 }
 
-pub(crate) fn instruction(head: Head, row: Row, code: &[u8]) -> Instruction
+pub(crate) fn instruction(head: Head, row: Row, code: &[u8], at: usize, bytes: usize) -> Instruction
+    requires { ⌜ (at ≡ displacementAt head) × (bytes ≡ displacementSize head) × (at ≤ 7) × (bytes ≤ 4) ⌝ }
     ensures { λ r. ⌜ r ≡ instruction head row (now (code .entry)) ⌝ }
 {
     let operation = row.operation();
     let shape = row.shape();
     let rounding = rounding(head, row);
     let first = first(head, row);
-    let second = head.second(displacement(head, row, code));
+    let second = head.second(displacement(head, row, code, at, bytes));
     Instruction {
         operation,
         shape,
@@ -99,7 +92,8 @@ pub(crate) fn instruction(head: Head, row: Row, code: &[u8]) -> Instruction
         destination: head.destination(),
         first,
         second,
-        size: size(head, row),
+        // R3.14: the instruction's length in bytes.
+        size: at + bytes,
     }
 }
 

@@ -128,8 +128,10 @@ pub fn decode(code: &[u8]) -> Decoded
     if form::is_reserved(head, row) {
         return Decoded::Refused(Refusal::Reserved);
     }
-    if code.len() < form::size(head, row) {
+    let at = head.displacement_at();
+    let bytes = head.displacement_size();
+    if code.len() < at + bytes {
         return Decoded::Refused(Refusal::Incomplete);
     }
-    Decoded::Fields(form::instruction(head, row, code))
+    Decoded::Fields(form::instruction(head, row, code, at, bytes))
 }

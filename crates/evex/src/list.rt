@@ -1,8 +1,10 @@
 // The list of instructions (R2.1).
 ghost use mathlib.Core.Path.{_≡_};
-ghost use mathlib.Core.List.{_∷_};
-ghost use Prim.Native.Nat.{_+_, _<_};
-ghost use lib.ListN.{length, drop};
+ghost use mathlib.Core.Bool.{false, _&&_};
+ghost use Prim.Native.Nat.{ℕ, _+_, _≤_};
+ghost use lib.Dec.{eqb};
+ghost use lib.ListN.{length, take, drop};
+ghost use Rattle.lists.specs.Lists.{some};
 ghost use Rattle.evex.specs.List.{rows, operation, shape, find};
 use super::Operation;
 use super::Shape;
@@ -84,25 +86,60 @@ impl Row {
     }
 }
 
-// Row i, which stands before the rest. A function of its own: its proof holds the whole table, and the search below none of it.
-fn row_at(i: usize) -> Row
-    requires { ⌜ i < length rows ⌝ }
-    ensures { λ r. ⌜ drop i rows ≡ r ∷ drop (i + 1) rows ⌝ }
+// The table is taken whole, so that it is laid out once and not at each turn of the search.
+fn search(table: [Row; COUNT], from: usize, prefix: u8, map: u8, w: u8, opcode: u8) -> Listed
+    requires { ⌜ length table ≡ 16 ⌝ }
+    ensures { λ r. ⌜ r ≡ find (drop from table) prefix map w opcode ⌝ }
 {
-    ROWS[i]
-}
-
-// The row that has these.
-pub(crate) fn find(prefix: u8, map: u8, w: u8, opcode: u8) -> Listed
-    ensures { λ r. ⌜ r ≡ find rows prefix map w opcode ⌝ }
-{
-    let mut i = 0;
+    let mut i = from;
     while i < COUNT {
-        let row = row_at(i);
+        let row = table[i];
         if (row.0 == prefix) & (row.1 == map) & (row.2 == w) & (row.3 == opcode) {
             return Listed::Found(row);
         }
         i += 1;
     }
     Listed::Nothing
+}
+
+// No row before this one has the opcode, and none before the eighth behind it has it with the prefix F3.
+fn row_of(opcode: u8) -> usize
+    ensures { λ r. ⌜
+        (some (λ row. eqb (row .3) opcode) (take r rows) ≡ false)
+        × (some (λ row. eqb (row .0) 2 && eqb (row .3) opcode) (take (r + 8) rows) ≡ false)
+        × (r ≤ 15)
+        ⌝ }
+{
+    match opcode {
+        0x59 => 1,
+        0x5c => 2,
+        0x5e => 3,
+        0x51 => 4,
+        0x98 => 5,
+        0xa8 => 6,
+        0xb8 => 7,
+        0x99 => 13,
+        0xa9 => 14,
+        0xb9 => 15,
+        _ => 0,
+    }
+}
+
+// Where the search begins: no row before it is the one.
+fn first_row(prefix: u8, opcode: u8) -> usize
+    ensures { λ r. ⌜ ((map w : ℕ) → find (drop r rows) prefix map w opcode ≡ find rows prefix map w opcode) ⌝ }
+{
+    let number = row_of(opcode);
+    if prefix == 2 {
+        return number + 8;
+    }
+    number
+}
+
+// The row that has these. A function of its own: its proof holds the whole table, and the search none of it.
+pub(crate) fn find(prefix: u8, map: u8, w: u8, opcode: u8) -> Listed
+    ensures { λ r. ⌜ r ≡ find rows prefix map w opcode ⌝ }
+{
+    let table = ROWS;
+    search(table, first_row(prefix, opcode), prefix, map, w, opcode)
 }

@@ -5,4 +5,5 @@ pub mod Sets
 pub mod Signed
 pub mod Words
 pub mod Stored
+pub mod Upper
 pub mod Meaning

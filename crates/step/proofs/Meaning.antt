@@ -3,7 +3,7 @@
 use Prim.Native.Nat.{ℕ, _/_, _%_, _^_, _<_}
 use mathlib.Core.Path.{_≡_, refl, sym, ap, _∙_}
 use mathlib.Core.Bool.{Bool, true, false, cond, not, _&&_, true≢false, false≢true}
-use mathlib.Core.List.{List}
+use mathlib.Core.List.{List, [], _∷_}
 use native.Mathlib.Nat.{zero-div}
 use native.Mathlib.Omega.{arith}
 use borrow.Author.Tests.{ltb-false}
@@ -32,7 +32,9 @@ use Rattle.machine.specs.Step.{refused, stopped, completed, step}
 use Rattle.machine.proofs.Ends.{refuses-memory, stops, completes}
 use Rattle.machine.proofs.OffLanes.{above-off}
 use Rattle.step.specs.declared.lanes.Results.{Results}
-use Rattle.step.specs.Work.{everyLane, secondGathered, resultsWhere, storedBy, Left, leftOf, finished, executed}
+use Rattle.step.specs.Work.{everyLane, keptBy, secondGathered, resultsWhere, keptOr, scalarOr, storedBy, halvesOf, Left, leftOf}
+use Rattle.step.specs.Work.{finished, executed}
+use Rattle.step.proofs.Upper.{lane-half, one-lane, first-alone}
 
 -- ---- sources: what a lane that is off has does not count
 
@@ -65,14 +67,18 @@ module _ (p : ℕ → Bool) where
     results-equal : resultsWhere p op e g ≡ resultsWhere p op e h
     unfolding resultsWhere
     results-equal = λ i.
-        record { halves = lanes-equal (λ (r : Element). r .value) i; flags = ap orAll (lanes-equal (λ (r : Element). r .flags)) i }
+        record {
+          halves = lanes-equal (λ (r : Element). r .value) i;
+          joined = ap orAll (lanes-equal (λ (r : Element). r .value)) i;
+          flags = ap orAll (lanes-equal (λ (r : Element). r .flags)) i;
+        }
 
 -- ---- lanes, and the destination: a result is 0 where its lane is off
 
 module _ (s : State) (i : Instruction) (g : Sources) where
   results-are :
       resultsWhere (on s i) (i .operation) (environmentOf i (s .control)) g
-      ≡ record { halves = results s i g; flags = raised s i g }
+      ≡ record { halves = results s i g; joined = orAll (results s i g); flags = raised s i g }
   unfolding resultsWhere results raised
   results-are = refl
 
@@ -107,15 +113,35 @@ module _ (s : State) (i : Instruction) (g : Sources) where
   lane-by q true true eight t false z e below same = absurd (true≢false (same refl))
   lane-by q true false eight t true z e below same = absurd (false≢true (same refl))
 
-  stored-is : (i .shape .scalar ≡ true → i .elements ≡ 1)
+  all-stored : (i .shape .scalar ≡ true → i .elements ≡ 1)
       → vectorsWith (storedBy (on s i) i) (s .vectors) (results s i g) (i .destination) ≡ vectorsAfter s i (results s i g)
   unfolding vectorsWith vectorsAfter newRegister fill
-  stored-is one =
+  all-stored one =
       ap (λ (bytes : List ℕ). paste (s .vectors) (registerAt (i .destination)) bytes 64)
       (table-equal 64
       (λ q h.
       lane-by q (i .shape .scalar) (ltb (q / 2) 1) (ltb (q / 2) 8) (on s i (q / 2)) (ltb (q / 2) (i .elements)) (i .zeroing)
       (off (q / 2) (omega arith)) (λ e. above-off s i (q / 2) (ltb-false _ _ e)) (λ e. ap (λ (n : ℕ). ltb (q / 2) n) (sym (one e)))))
+
+  -- one half is all of them or-ed
+  joined-is : i .elements ≡ 1 → orAll (results s i g) ≡ getD (results s i g) 0 0
+  unfolding results
+  joined-is one = sym (one-lane (on s i) _ (λ j h. above-off s i j (rw one h))) ∙ sym (lane-half (on s i) _)
+
+  -- so that it counts for them
+  counts : (scalar : Bool) (kept : ℕ → Bool) (m n : ℕ) → (scalar ≡ true → orAll (results s i g) ≡ getD (results s i g) 0 0)
+      → vectorsWith (λ j. cond scalar (scalarOr kept m n j) (keptOr kept n j)) (s .vectors)
+      (cond scalar (orAll (results s i g) ∷ []) (results s i g)) n
+      ≡ vectorsWith (λ j. cond scalar (scalarOr kept m n j) (keptOr kept n j)) (s .vectors) (results s i g) n
+  counts true kept m n e = rw (e refl) (first-alone kept (results s i g) m n (s .vectors))
+  counts false kept m n e = refl
+
+  stored-is : (i .shape .scalar ≡ true → i .elements ≡ 1)
+      → vectorsWith (storedBy (on s i) i) (s .vectors)
+      (halvesOf i (record { halves = results s i g; joined = orAll (results s i g); flags = raised s i g })) (i .destination)
+      ≡ vectorsAfter s i (results s i g)
+  stored-is one =
+      counts (i .shape .scalar) (keptBy (on s i) i) (upperFrom i) (i .destination) (λ e. joined-is (one e)) ∙ all-stored one
 
 -- ---- the whole, from what the parts give
 
@@ -151,7 +177,12 @@ module _ (memory : List ℕ) (s : State) (i : Instruction) (p : ℕ → Bool) (e
         first = firstHalves everyLane (s .vectors) (i .first);
         second = secondGathered p (s .vectors) memory second;
       })) where
-    computed-is : r ≡ record { halves = results s i (gathered memory s i); flags = raised s i (gathered memory s i) }
+    computed-is : r
+        ≡ record {
+          halves = results s i (gathered memory s i);
+          joined = orAll (results s i (gathered memory s i));
+          flags = raised s i (gathered memory s i);
+        }
     unfolding gathered
     computed-is =
         rw (by, second-is, lanes-are)

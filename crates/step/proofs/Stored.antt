@@ -1,31 +1,27 @@
--- A turn of the loop that stores lanes: a lane that is kept is left in place, and the two bytes of any other are stored. Of a scalar
--- instruction: lanes 0 to 7 and 0 above them are what becomes of its destination.
+-- A turn of the loop that stores lanes: a lane that is kept is left in place, and the two bytes of any other are stored.
 -- Assumes nothing.
 use Prim.Native.Nat.{ℕ, _+_, _-_, _*_, _/_, _%_, _^_, _<_, _≤_}
-use mathlib.Core.Path.{_≡_, refl, sym, ap, _∙_}
+use mathlib.Core.Path.{_≡_, refl, sym, _∙_}
 use mathlib.Core.Bool.{Bool, true, false, cond}
 use mathlib.Core.List.{List, _++_}
-use native.Mathlib.Decide.{decLt}
 use native.Mathlib.Nat.{div-one}
 use native.Mathlib.Omega.{arith}
-use borrow.Author.Tests.{not-false, lt-ltb, le-ltb}
+use borrow.Author.Tests.{not-false}
 use lib.Bits.{bitXor}
-use lib.Dec.{ltb, lit<}
 use lib.ListN.{getD, set, take, drop}
 use lib.Seq.{drop-drop}
-use Rattle.lists.specs.Lists.{table}
 use Rattle.lists.proofs.Tests.{either-equal}
-use Rattle.lists.proofs.Tables.{table-equal, length-table, getD-table, part-at, paste-whole}
+use Rattle.lists.proofs.Tables.{table-equal, part-at, paste-whole}
 use Rattle.evex.specs.Bits.{isSet}
 use Rattle.evex.proofs.Bitwise.{no-bit, bit-above, flipped-bit}
 use Rattle.machine.specs.State.{registerAt}
 use Rattle.machine.specs.Lanes.{Fill, computed, copied, filled, newRegister, vectorsWith}
 use Rattle.machine.proofs.TwoRuns.{new-length}
-use Rattle.step.specs.Work.{keptOr, scalarOr}
-use Rattle.step.proofs.Filling.{Filled, none, more, same, all}
+use Rattle.step.specs.Work.{keptOr}
+use Rattle.step.proofs.Filling.{Filled, more, same}
 
 -- a register's bytes in the place of the old ones
-replaced : (how : ℕ → Fill) (file halves : List ℕ) (n : ℕ)
+pub replaced : (how : ℕ → Fill) (file halves : List ℕ) (n : ℕ)
     → take (n * 64) file ++ (newRegister how file halves ++ drop 64 (drop (n * 64) file)) ≡ vectorsWith how file halves n
 unfolding vectorsWith
 replaced how file halves n =
@@ -96,53 +92,6 @@ module _ (kept : ℕ → Bool) (halves : List ℕ) where
       → take (n * 64) file ++ (newRegister (keptOr kept 0) (take 64 (drop (n * 64) file)) halves ++ drop 64 (drop (n * 64) file))
       ≡ vectorsWith (keptOr kept n) file halves n
   pasted file n = rw (part file n) (replaced (keptOr kept n) file halves n)
-
-  -- ---- of a scalar instruction
-
-  module _ (from n : ℕ) (file : List ℕ) where
-    abbrev scalarByte : ℕ → ℕ
-    scalarByte q = filled file halves q (scalarOr kept from n (q / 2))
-
-    -- the other register's bytes up to lane 7, and 0 above
-    abbrev lowerByte : ℕ → ℕ
-    lowerByte q = cond (ltb q 16) (getD file (registerAt from + q) 0) 0
-
-    above : (q : ℕ) → 2 ≤ q → lowerByte q ≡ scalarByte q
-    above q h =
-        elim (decLt q 16) [
-          | yes l ↦ rw (le-ltb (q / 2) 1 (omega arith), lt-ltb (q / 2) 8 (omega arith), lt-ltb q 16 l)
-          | no l ↦ rw (le-ltb (q / 2) 1 (omega arith), le-ltb (q / 2) 8 (omega arith), le-ltb q 16 (omega arith))
-        ]
-
-    -- lane 0's two bytes in their place
-    with-lane : {x y : ℕ} → x ≡ scalarByte 0 → y ≡ scalarByte 1
-        → set (set (table 64 lowerByte) 0 x) 1 y ≡ newRegister (scalarOr kept from n) file halves
-    unfolding newRegister
-    with-lane e f =
-        all (more (more (none {d = table 64 lowerByte} (length-table 64 lowerByte)) (lit< tt) e) (lit< tt) f)
-        (λ k h l. getD-table 64 lowerByte k 0 l ∙ above k h)
-
-    -- its own,
-    pub lane-kept : kept 0 ≡ true
-        → set (set (table 64 lowerByte) 0 (getD file (n * 64) 0)) 1 (getD file (n * 64 + 1) 0)
-        ≡ newRegister (scalarOr kept from n) file halves
-    lane-kept t = with-lane (rw t (ap (λ (p : ℕ). getD file p 0) (omega arith))) (rw t)
-
-    -- or the result's
-    pub lane-stored : kept 0 ≡ false
-        → set (set (table 64 lowerByte) 0 (getD halves 0 0 % 256)) 1 (getD halves 0 0 / 256 % 256)
-        ≡ newRegister (scalarOr kept from n) file halves
-    lane-stored t = with-lane (rw (t, div-one)) (rw t)
-
--- a register whose bytes are lent by value
-pub replaced-bytes : (how : ℕ → Fill) (file halves : List ℕ) (n : ℕ)
-    → take (n * 64) file ++ (table 64 (λ q. getD (newRegister how file halves) q 0) ++ drop 64 (drop (n * 64) file))
-    ≡ vectorsWith how file halves n
-unfolding newRegister
-replaced-bytes how file halves n =
-    let byte : ℕ → ℕ = λ q. filled file halves q (how (q / 2)) in
-    let same : table 64 (λ q. getD (table 64 byte) q 0) ≡ table 64 byte = table-equal 64 (λ q h. getD-table 64 byte q 0 h) in
-    rw same (replaced how file halves n)
 
 -- from the last lane that is not kept on all are
 pub rest-left : (kept end : ℕ) (halves d : List ℕ) → bitXor kept (2 ^ 32 - 1) < 2 ^ end

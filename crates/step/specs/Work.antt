@@ -2,7 +2,7 @@
 -- proofs/Meaning.antt tie each to the definition of the machine that it serves.
 use Prim.Native.Nat.{ℕ, _<_}
 use mathlib.Core.Bool.{Bool, true, cond, not, _&&_}
-use mathlib.Core.List.{List}
+use mathlib.Core.List.{List, [], _∷_}
 use lib.Dec.{ltb}
 use lib.ListN.{length}
 use Rattle.lists.specs.Lists.{orAll}
@@ -49,6 +49,7 @@ unfoldable pub resultsWhere : (ℕ → Bool) → Operation → Environment → S
 resultsWhere on op e g =
     record {
       halves = lanesOn on (λ j. elementAt op e g j .value);
+      joined = orAll (lanesOn on (λ j. elementAt op e g j .value));
       flags = orAll (lanesOn on (λ j. elementAt op e g j .flags));
     }
 
@@ -66,6 +67,10 @@ scalarOr kept from n j = cond (ltb j 1) (keptOr kept n j) (cond (ltb j 8) (copie
 abbrev pub storedBy : (ℕ → Bool) → Instruction → ℕ → Fill
 storedBy on i j =
     cond (i .shape .scalar) (scalarOr (keptBy on i) (upperFrom i) (i .destination) j) (keptOr (keptBy on i) (i .destination) j)
+
+-- the halves that count
+abbrev pub halvesOf : Instruction → Results → List ℕ
+halvesOf i r = cond (i .shape .scalar) (r .joined ∷ []) (r .halves)
 
 -- ---- the whole
 
@@ -87,7 +92,7 @@ finished on i r next vectors control pointer =
     (leftOf (record { number = 8; length = 0 }) vectors flagged pointer)
     (leftOf
     (record { number = 0; length = i .size })
-    (vectorsWith (storedBy on i) vectors (r .halves) (i .destination))
+    (vectorsWith (storedBy on i) vectors (halvesOf i r) (i .destination))
     flagged
     next)
 

@@ -15,9 +15,10 @@ use half::sum;
 use machine::Element;
 use machine::Environment;
 
-// 0 in lanes that are off.
+// 0 in lanes that are off. `joined` is all halves or-ed: of a scalar instruction the one that it has, without a look into the array.
 pub struct Results {
     pub halves: [u16; 32],
+    pub joined: u16,
     pub flags: u8,
 }
 
@@ -59,6 +60,7 @@ pub(crate) fn all_lanes(
     ensures { λ r. ⌜ r ≡ resultsWhere (isSet on) operation e (record { destination = d; first = f; second = x }) ⌝ }
 {
     let mut halves = [0u16; 32];
+    let mut joined = 0u16;
     let mut flags = 0u8;
     let end = end_of(on);
     for j in 0..end {
@@ -67,7 +69,12 @@ pub(crate) fn all_lanes(
         }
         let r = operate(operation, e, d[j], f[j], x[j]);
         halves[j] = r.value;
+        joined = joined | r.value;
         flags = flags | r.flags;
     }
-    Results { halves, flags }
+    Results {
+        halves,
+        joined,
+        flags,
+    }
 }

@@ -24,6 +24,7 @@ mod address;
 mod control;
 mod lanes;
 mod mask;
+mod scalar;
 mod sources;
 mod store;
 
@@ -66,8 +67,7 @@ fn finish(
         *control = flagged.bits;
         return ended(8);
     }
-    let halves = results.halves;
-    store(vectors, on, i, halves);
+    store(vectors, on, i, results);
     // R7.4: where nothing stops it no flag is left out.
     let flagged = word.recorded(rounding, results.flags);
     *control = flagged.bits;

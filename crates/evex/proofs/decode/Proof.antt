@@ -3,7 +3,7 @@ use native.Mathlib.Omega.{arith}
 use mathlib.Core.Path.{sym, _∙_}
 use denote.Ref.{now}
 use Rattle.evex.proofs.Order.{Begun, Headed, Rowed, no-bytes, first-byte, few-bytes, fixed-bits, unlisted, reserved, missing}
-use Rattle.evex.proofs.Order.{accepted}
+use Rattle.evex.proofs.Order.{sized, accepted}
 use borrow.Author.Needs.{needs}
 use Rattle.evex.proofs.decode.Statement.{statement}
 use Rattle.evex.proofs.decode.Tie as tie
@@ -78,11 +78,18 @@ returns-6 c =
     (sym (c .before .before .before .before .before .listed .ensures) ∙ c .before .before .before .row .given .1)
     (sym (c .before .is-reserved .ensures) ∙ c .if5 .taken)
 
-size-requires : tie.Need-size-requires
-size-requires c κs = search needs
+displacement-at-requires : tie.Need-displacement-at-requires
+displacement-at-requires c κs = search needs
+
+displacement-size-requires : tie.Need-displacement-size-requires
+displacement-size-requires c κs = search needs
+
+add-if6 : tie.Need-add-if6
+add-if6 c = search needs
 
 returns-7 : tie.Need-returns-7
-returns-7 c = missing (rowed (c .before .before)) (c .before .size .ensures) (c .if6 .taken)
+returns-7 c =
+    missing (rowed (c .before .before .before)) (sized _ _ (c .before .before .displacement-at .ensures .0) (c .before .displacement-size .ensures .0)) (c .if6 .taken)
 
 instruction-requires : tie.Need-instruction-requires
 instruction-requires c κs = search needs
@@ -90,7 +97,8 @@ instruction-requires c κs = search needs
 returns-8 : tie.Need-returns-8
 returns-8 c =
     rw (c .instruction .ensures)
-    (accepted (rowed (c .before .before .before)) (c .before .before .size .ensures) (c .before .if6 .left))
+    (accepted (rowed (c .before .before .before .before)) (sized _ _ (c .before .before .before .displacement-at .ensures .0) (c .before .before .displacement-size .ensures .0))
+    (c .before .if6 .left))
 
 pub decode-spec : {M : Type 1} → statement M
 decode-spec =
@@ -109,7 +117,9 @@ decode-spec =
     returns-5
     is-reserved-requires
     returns-6
-    size-requires
+    displacement-at-requires
+    displacement-size-requires
+    add-if6
     returns-7
     instruction-requires
     returns-8)

@@ -36,8 +36,8 @@ store-requires c κs = search needs
 recorded-requires-2 : tie.Need-recorded-requires-2
 recorded-requires-2 c κs = search needs
 
-cast-t13 : tie.Need-cast-t13
-cast-t13 c = search needs
+cast-t12 : tie.Need-cast-t12
+cast-t12 c = search needs
 
 same-length : tie.Need-same-length
 same-length c = search needs
@@ -45,8 +45,8 @@ same-length c = search needs
 returns-2 : tie.Need-returns-2
 unfolding finished
 returns-2 c =
-    let raised : tie.After-raises = c .before .before .before .before .before .before .before .before in
-    let none = sym (raised .raises .ensures) ∙ c .before .before .before .before .before .before .before .if1 .left in
+    let raised : tie.After-raises = c .before .before .before .before .before .before .before in
+    let none = sym (raised .raises .ensures) ∙ c .before .before .before .before .before .before .if1 .left in
     rw (
       all-added _ _ _ none,
       none,
@@ -65,6 +65,6 @@ finish-spec =
     returns
     store-requires
     recorded-requires-2
-    cast-t13
+    cast-t12
     same-length
     returns-2)

@@ -7,12 +7,6 @@ use borrow.Author.Needs.{needs}
 use Rattle.evex.proofs.form.displacement.Statement.{statement}
 use Rattle.evex.proofs.form.displacement.Tie as tie
 
-displacement-at-requires : tie.Need-displacement-at-requires
-displacement-at-requires c κs = search needs
-
-displacement-size-requires : tie.Need-displacement-size-requires
-displacement-size-requires c κs = search needs
-
 byte-at-requires : tie.Need-byte-at-requires
 byte-at-requires c κs = search needs
 
@@ -35,8 +29,8 @@ returns c =
       c .before .before .signed8 .ensures,
       c .before .before .before .byte-at .ensures,
       c .before .unit .ensures,
-      ← c .before .before .before .before .before .displacement-size .ensures .0,
-      ← c .before .before .before .before .before .before .displacement-at .ensures .0,
+      ← c .before .before .before .before .before .before .pre .1,
+      ← c .before .before .before .before .before .before .pre .0,
       c .before .before .before .before .if1 .taken,
     )
 
@@ -53,21 +47,19 @@ returns-2 c =
       toZ-ofZ {w = w32} {z = c .signed32 .result} (record { sfits = c .signed32 .ok }),
       c .signed32 .ensures,
       c .before .four-bytes-at .ensures,
-      ← c .before .before .before .before .displacement-size .ensures .0,
-      ← c .before .before .before .before .before .displacement-at .ensures .0,
+      ← c .before .before .before .before .before .pre .1,
+      ← c .before .before .before .before .before .pre .0,
       c .before .before .if2 .taken,
     )
 
 returns-3 : tie.Need-returns-3
 unfolding displacementOf
-returns-3 c = rw (← c .before .before .displacement-size .ensures .0, ne-eqb _ _ (c .before .if1 .left), ne-eqb _ _ (c .if2 .left))
+returns-3 c = rw (← c .before .before .before .pre .1, ne-eqb _ _ (c .before .if1 .left), ne-eqb _ _ (c .if2 .left))
 
 pub displacement-spec : {M : Type 1} → statement M
 displacement-spec =
     tie.close
     (tie.spec
-    displacement-at-requires
-    displacement-size-requires
     byte-at-requires
     signed8-requires
     unit-requires

@@ -2,6 +2,7 @@
 use mir.Syntax.{w32}
 use mir.Facts.{toZ-ofZ}
 use Rattle.evex.specs.Fields.{instruction}
+use Rattle.evex.proofs.Order.{sized}
 use borrow.Author.Needs.{needs}
 use Rattle.evex.proofs.form.instruction.Statement.{statement}
 use Rattle.evex.proofs.form.instruction.Tie as tie
@@ -27,8 +28,8 @@ second-requires c κs = search needs
 elements-requires : tie.Need-elements-requires
 elements-requires c κs = search needs
 
-cast-t11 : tie.Need-cast-t11
-cast-t11 c = search needs
+cast-t13 : tie.Need-cast-t13
+cast-t13 c = search needs
 
 has-z-requires : tie.Need-has-z-requires
 has-z-requires c κs = search needs
@@ -39,26 +40,27 @@ mask-requires c κs = search needs
 destination-requires : tie.Need-destination-requires
 destination-requires c κs = search needs
 
-size-requires : tie.Need-size-requires
-size-requires c κs = search needs
+add-t17 : tie.Need-add-t17
+add-t17 c = search needs
 
 returns : tie.Need-returns
 unfolding instruction
 returns c =
-    let placed : tie.After-displacement = c .before .before .before .before .before .before in
+    let placed : tie.After-displacement = c .before .before .before .before .before in
+    let start : tie.Start = placed .before .before .before .before .before .before in
     rw (
       placed .before .before .before .before .operation .ensures,
       placed .before .before .before .shape .ensures,
       placed .before .before .rounding .ensures,
       placed .before .first .ensures,
-      c .before .before .before .before .before .second .ensures,
+      c .before .before .before .before .second .ensures,
       toZ-ofZ {w = w32} {z = placed .displacement .result} (record { sfits = placed .displacement .ok }),
       placed .displacement .ensures,
-      c .before .before .before .before .elements .ensures .0,
-      c .before .before .before .has-z .ensures,
-      c .before .before .mask .ensures,
-      c .before .destination .ensures,
-      c .size .ensures,
+      c .before .before .before .elements .ensures .0,
+      c .before .before .has-z .ensures,
+      c .before .mask .ensures,
+      c .destination .ensures,
+      sized (start .args .head) (start .args .row) (start .pre .0) (start .pre .1),
     )
 
 pub instruction-spec : {M : Type 1} → statement M
@@ -72,9 +74,9 @@ instruction-spec =
     displacement-requires
     second-requires
     elements-requires
-    cast-t11
+    cast-t13
     has-z-requires
     mask-requires
     destination-requires
-    size-requires
+    add-t17
     returns)

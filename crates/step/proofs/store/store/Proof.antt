@@ -34,8 +34,8 @@ returns-2 : tie.Need-returns-2
 returns-2 c =
     rw (
       c .before .before .store-packed .ensures,
-      c .before .before .before .before .before .before .lanes-kept .ensures,
-      c .before .before .before .before .if1 .left,
+      c .before .before .before .before .before .before .before .lanes-kept .ensures,
+      c .before .before .before .before .before .if1 .left,
     )
 
 pub store-spec : {M : Type 1} → statement M

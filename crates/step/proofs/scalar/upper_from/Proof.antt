@@ -1,9 +1,9 @@
--- `step::store::upper_from` meets its contract: by the column, and by the kind of the first source.
+-- `step::scalar::upper_from` meets its contract: by the column, and by the kind of the first source.
 use mathlib.Core.Path.{subst}
 use Rattle.evex.proofs.Bounds.{SourceIn}
 use borrow.Author.Needs.{needs}
-use Rattle.step.proofs.store.upper_from.Statement.{statement}
-use Rattle.step.proofs.store.upper_from.Tie as tie
+use Rattle.step.proofs.scalar.upper_from.Statement.{statement}
+use Rattle.step.proofs.scalar.upper_from.Tie as tie
 
 returns : tie.Need-returns
 returns c = search needs

@@ -1,4 +1,4 @@
--- `step::store::lower_lanes` meets its contract: the loop fills sixteen bytes, and 0 stands behind them.
+-- `step::scalar::lower_lanes` meets its contract: the loop fills sixteen bytes, and 0 stands behind them.
 use Prim.Native.Nat.{_+_, _-_}
 use mathlib.Core.Path.{refl, sym, _∙_}
 use mathlib.Core.Bool.{cond}
@@ -9,8 +9,8 @@ use lib.Dec.{ltb}
 use lib.ListN.{getD, getD-replicate}
 use Rattle.machine.specs.State.{registerAt}
 use Rattle.step.proofs.Filling.{Filled, none, more, all}
-use Rattle.step.proofs.store.lower_lanes.Statement.{statement}
-use Rattle.step.proofs.store.lower_lanes.Tie as tie
+use Rattle.step.proofs.scalar.lower_lanes.Statement.{statement}
+use Rattle.step.proofs.scalar.lower_lanes.Tie as tie
 
 abbrev Inv-loop : tie.InvT-loop
 Inv-loop vectors n bytes₀ q₀ bytes q = Filled (λ k. cond (ltb k 16) (getD vectors (registerAt n + k) 0) 0) 64 bytes₀ bytes q
