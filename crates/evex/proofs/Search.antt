@@ -3,11 +3,10 @@
 use mathlib.Core.Path.{_≡_, refl}
 use mathlib.Core.Bool.{Bool, true, false, _&&_, and-false, true≢false}
 use mathlib.Core.List.{List, [], _∷_}
-use Prim.Native.Nat.{ℕ, zero, suc, _+_, _<_, _≤_}
-use native.Mathlib.Numerals.{add-one}
+use Prim.Native.Nat.{ℕ, zero, suc, _≤_}
+use native.Mathlib.Omega.{arith}
 use lib.Dec.{eqb}
-use lib.ListN.{length, getD, take, drop, drop-of-length-le}
-use lib.Seq.{drop-cons}
+use lib.ListN.{length, take, drop, drop-of-length-le}
 use Rattle.lists.specs.Lists.{some}
 use Rattle.lists.proofs.Tests.{either, neither}
 use Rattle.evex.specs.declared.list.Row.{Row}
@@ -15,9 +14,14 @@ use Rattle.evex.specs.declared.list.Listed.{Listed}
 use Rattle.evex.specs.declared.list.Listed.the-variants.{Found, Nothing}
 use Rattle.evex.specs.List.{isFor, find}
 
--- a row stands before those behind it
-pub row-before : (l : List Row) (i : ℕ) (d : Row) → i < length l → drop i l ≡ getD l i d ∷ drop (i + 1) l
-row-before l i d h = rw add-one (drop-cons l i d h)
+-- what is none of the numbers below n, as the last arm of a `match` says it
+abbrev pub NoneBelow : ℕ → ℕ → Type 0
+NoneBelow zero i = Unit {0}
+NoneBelow (suc n) i = NoneBelow n i × (i ≡ n → ⊥)
+
+pub beyond : (n i : ℕ) → NoneBelow n i → n ≤ i
+beyond zero i h = omega arith
+beyond (suc n) i h = omega (arith, beyond n i (h .0), h .1)
 
 module _ {l m : List Row} {r : Row} (prefix map w opcode : ℕ) (e : l ≡ r ∷ m) where
   pub ends : isFor r prefix map w opcode ≡ true → Found r ≡ find l prefix map w opcode

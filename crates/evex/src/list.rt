@@ -1,7 +1,8 @@
 // The list of instructions (R2.1).
 ghost use mathlib.Core.Path.{_≡_};
 ghost use mathlib.Core.Bool.{false, _&&_};
-ghost use Prim.Native.Nat.{ℕ, _+_, _≤_};
+ghost use mathlib.Core.List.{_∷_};
+ghost use Prim.Native.Nat.{ℕ, _+_, _<_, _≤_};
 ghost use lib.Dec.{eqb};
 ghost use lib.ListN.{length, take, drop};
 ghost use Rattle.lists.specs.Lists.{some};
@@ -51,25 +52,6 @@ const FUSED_SCALAR: Shape = Shape {
 
 const COUNT: usize = 16;
 
-const ROWS: [Row; COUNT] = [
-    Row(0, 5, 0, 0x58, Operation::Add, PACKED),
-    Row(0, 5, 0, 0x59, Operation::Multiply, PACKED),
-    Row(0, 5, 0, 0x5c, Operation::Subtract, PACKED),
-    Row(0, 5, 0, 0x5e, Operation::Divide, PACKED),
-    Row(0, 5, 0, 0x51, Operation::SquareRoot, ROOT),
-    Row(1, 6, 0, 0x98, Operation::Fused132, FUSED),
-    Row(1, 6, 0, 0xa8, Operation::Fused213, FUSED),
-    Row(1, 6, 0, 0xb8, Operation::Fused231, FUSED),
-    Row(2, 5, 0, 0x58, Operation::Add, SCALAR),
-    Row(2, 5, 0, 0x59, Operation::Multiply, SCALAR),
-    Row(2, 5, 0, 0x5c, Operation::Subtract, SCALAR),
-    Row(2, 5, 0, 0x5e, Operation::Divide, SCALAR),
-    Row(2, 5, 0, 0x51, Operation::SquareRoot, SCALAR),
-    Row(1, 6, 0, 0x99, Operation::Fused132, FUSED_SCALAR),
-    Row(1, 6, 0, 0xa9, Operation::Fused213, FUSED_SCALAR),
-    Row(1, 6, 0, 0xb9, Operation::Fused231, FUSED_SCALAR),
-];
-
 impl Row {
     // The columns that are read once the row is found.
 
@@ -86,20 +68,30 @@ impl Row {
     }
 }
 
-// The table is taken whole, so that it is laid out once and not at each turn of the search.
-fn search(table: [Row; COUNT], from: usize, prefix: u8, map: u8, w: u8, opcode: u8) -> Listed
-    requires { ⌜ length table ≡ 16 ⌝ }
-    ensures { λ r. ⌜ r ≡ find (drop from table) prefix map w opcode ⌝ }
+// Row i of the table, which stands before the rest. Its proof holds the whole table, and the search below none of it. A `match` lies ready
+// in the program, where a constant array would be laid out at each step.
+fn row_at(i: usize) -> Row
+    requires { ⌜ i < length rows ⌝ }
+    ensures { λ r. ⌜ drop i rows ≡ r ∷ drop (i + 1) rows ⌝ }
 {
-    let mut i = from;
-    while i < COUNT {
-        let row = table[i];
-        if (row.0 == prefix) & (row.1 == map) & (row.2 == w) & (row.3 == opcode) {
-            return Listed::Found(row);
-        }
-        i += 1;
+    match i {
+        0 => Row(0, 5, 0, 0x58, Operation::Add, PACKED),
+        1 => Row(0, 5, 0, 0x59, Operation::Multiply, PACKED),
+        2 => Row(0, 5, 0, 0x5c, Operation::Subtract, PACKED),
+        3 => Row(0, 5, 0, 0x5e, Operation::Divide, PACKED),
+        4 => Row(0, 5, 0, 0x51, Operation::SquareRoot, ROOT),
+        5 => Row(1, 6, 0, 0x98, Operation::Fused132, FUSED),
+        6 => Row(1, 6, 0, 0xa8, Operation::Fused213, FUSED),
+        7 => Row(1, 6, 0, 0xb8, Operation::Fused231, FUSED),
+        8 => Row(2, 5, 0, 0x58, Operation::Add, SCALAR),
+        9 => Row(2, 5, 0, 0x59, Operation::Multiply, SCALAR),
+        10 => Row(2, 5, 0, 0x5c, Operation::Subtract, SCALAR),
+        11 => Row(2, 5, 0, 0x5e, Operation::Divide, SCALAR),
+        12 => Row(2, 5, 0, 0x51, Operation::SquareRoot, SCALAR),
+        13 => Row(1, 6, 0, 0x99, Operation::Fused132, FUSED_SCALAR),
+        14 => Row(1, 6, 0, 0xa9, Operation::Fused213, FUSED_SCALAR),
+        _ => Row(1, 6, 0, 0xb9, Operation::Fused231, FUSED_SCALAR),
     }
-    Listed::Nothing
 }
 
 // No row before this one has the opcode, and none before the eighth behind it has it with the prefix F3.
@@ -136,10 +128,17 @@ fn first_row(prefix: u8, opcode: u8) -> usize
     number
 }
 
-// The row that has these. A function of its own: its proof holds the whole table, and the search none of it.
+// The row that has these.
 pub(crate) fn find(prefix: u8, map: u8, w: u8, opcode: u8) -> Listed
     ensures { λ r. ⌜ r ≡ find rows prefix map w opcode ⌝ }
 {
-    let table = ROWS;
-    search(table, first_row(prefix, opcode), prefix, map, w, opcode)
+    let mut i = first_row(prefix, opcode);
+    while i < COUNT {
+        let row = row_at(i);
+        if (row.0 == prefix) & (row.1 == map) & (row.2 == w) & (row.3 == opcode) {
+            return Listed::Found(row);
+        }
+        i += 1;
+    }
+    Listed::Nothing
 }
