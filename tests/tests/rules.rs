@@ -79,7 +79,7 @@ fn arithmetic_examples() {
 
 #[test]
 fn step_examples() {
-    assert_eq!(check::<Step>(true, library::step_outcome), (44, [3, 7]));
+    assert_eq!(check::<Step>(true, library::step_outcome), (55, [8, 7]));
 }
 
 /// What stands behind some text, up to the end of the block of code that it begins.
