@@ -22,7 +22,7 @@
  * The kernel: rax is the record's address, rbx its weight's. zmm1 to zmm3 hold the query's halves 0 to 71, lane 0 of xmm4 holds the odd
  * one, 72, and lanes 1 to 7 of xmm4 are 0; k1 is 0xFF, for the tail of 8. The odd half comes first, since a scalar instruction writes its
  * whole destination (R5.10): lanes 1 to 7 as its first source has them, and 0 above. Here that starts the sums of all lanes; after
- * the others it would wipe out lanes 8 to 31.
+ * the others it would set lanes 8 to 31 to 0.
  */
 static const uint8_t KERNEL[] = {
     0x62, 0xF5, 0x5E, 0x08, 0x59, 0x40, 0x48, /* vmulsh      xmm0, xmm4, [rax + 144]        half 72         */

@@ -166,11 +166,11 @@ typedef struct {
  *
  * What each answer leaves:
  *
- *   RIDGECROOK_DONE       The destination register is written: lanes that are off keep their half,
- *                         or become 0 with zeroing; what lies above the vector becomes 0 (R5.9).
- *                         A scalar instruction has only lane 0 to compute, by bit 0 of the mask;
- *                         whether that is on or off, lanes 1 to 7 become the first source's (the
- *                         three fused keep the destination's) and lanes 8 to 31 become 0 (R5.10).
+ *   RIDGECROOK_DONE       The destination register is written. Of a packed instruction lanes that
+ *                         are off keep their half, or become 0 with zeroing, and what lies above
+ *                         the vector becomes 0 (R5.9). Of a scalar one that goes for lane 0, by
+ *                         bit 0 of the mask; lanes 1 to 7 become the first source's (the three
+ *                         fused keep the destination's), and lanes 8 to 31 become 0 (R5.10).
  *                         The flags that lanes that are on raise are set in *control, except under
  *                         embedded rounding (R7.2, R7.5). *pointer has grown by the length, and
  *                         wraps at 2 to the 64 (R4.15). All else is as it was.

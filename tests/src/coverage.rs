@@ -261,7 +261,7 @@ fn yes(holds: bool) -> Option<usize> {
 }
 
 /// Which of two things holds, or that both do.
-fn single_bit_or_both(first: bool, second: bool) -> Option<usize> {
+fn one_or_both(first: bool, second: bool) -> Option<usize> {
     match (first, second) {
         (true, false) => Some(0),
         (false, true) => Some(1),
@@ -287,7 +287,7 @@ fn destination_as_source(s: &Seen) -> Option<usize> {
     let is_first = instruction.listed.takes_first() && instruction.first == instruction.destination;
     let is_second =
         matches!(instruction.second, Second::Register(n) if n == instruction.destination);
-    single_bit_or_both(is_first, is_second)
+    one_or_both(is_first, is_second)
 }
 
 fn address_form(s: &Seen) -> Option<usize> {

@@ -64,8 +64,8 @@ fn with_overflow_unmasked(case: &Case) -> u8 {
 mod tests {
     use super::*;
 
-    /// The example of R7.6, packed, scalar and fused to it: the control word by the rules, and the
-    /// processor's.
+    /// The example of R7.6 as a packed, a scalar and a fused scalar step: the control word by the
+    /// rules, and what is expected of a processor (none has carried out the last two).
     #[test]
     fn the_rule_gives_the_known_case() {
         for line in [

@@ -152,7 +152,7 @@ pub const FAULTS: [Fault; 40] = [
             .get(3)
             .map_or(8, |byte| 8 << (byte >> 5 & 3).min(2));
         copy_above(step, outcome, Source::First, 8..lanes, |_, i| {
-            !accumulates(i)
+            !i.listed.accumulates()
         });
     }),
     ("scalar: lanes 1 to 7 kept", |step, outcome| {
@@ -197,7 +197,9 @@ pub const FAULTS: [Fault; 40] = [
     (
         "scalar: lanes 1 to 7 of a fused one from the first source",
         |step, outcome| {
-            copy_above(step, outcome, Source::First, 1..8, |_, i| accumulates(i));
+            copy_above(step, outcome, Source::First, 1..8, |_, i| {
+                i.listed.accumulates()
+            });
         },
     ),
     (
@@ -215,7 +217,8 @@ pub const FAULTS: [Fault; 40] = [
     (
         "scalar: 8 after lanes 1 to 7 were copied",
         |step, outcome| {
-            let scalar = instruction(step).filter(|i| i.listed.is_scalar() && !accumulates(i));
+            let scalar =
+                instruction(step).filter(|i| i.listed.is_scalar() && !i.listed.accumulates());
             if let Some(i) = scalar.filter(|_| outcome.answer.number == 8) {
                 for lane in 1..8 {
                     let half = step.machine.lane(i.first, lane);
@@ -229,7 +232,7 @@ pub const FAULTS: [Fault; 40] = [
         |step, outcome| {
             let off = |i: &Instruction| i.listed.is_scalar() && !is_on(&step.machine, i, 0);
             if outcome.answer.number == 0 && instruction(step).is_some_and(|i| off(&i)) {
-                with_lane_0_on(step, outcome, 7);
+                fault_without_mask(step, outcome);
             }
         },
     ),
@@ -239,11 +242,6 @@ pub const FAULTS: [Fault; 40] = [
         }
     }),
 ];
-
-/// R2.2: whether what the destination held is an operand.
-fn accumulates(instruction: &Instruction) -> bool {
-    instruction.listed.operands.contains(&Source::Destination)
-}
 
 /// Copies lanes of a scalar row that is done from a register as it was, where they are chosen.
 fn copy_above(
@@ -266,12 +264,12 @@ fn copy_above(
     });
 }
 
-/// Where the step with no mask would have that answer, the step has it.
-fn with_lane_0_on(step: &Step, outcome: &mut StepOutcome, number: u32) {
+/// Where the step with no mask would have answer 7, the step has it.
+fn fault_without_mask(step: &Step, outcome: &mut StepOutcome) {
     let mut unmasked = step.clone();
     unmasked.code[3] &= !0x87;
-    if second::step(&unmasked).answer.number == number {
-        refuse(step, outcome, number);
+    if second::step(&unmasked).answer.number == 7 {
+        refuse(step, outcome, 7);
     }
 }
 

@@ -7,7 +7,6 @@ use crate::machine::{Machine, Step, ALL_MASKED, VECTORS_SIZE};
 use crate::random::Random;
 use crate::second::encoding::{decode, Base, Instruction, Second, Source, LIST};
 use crate::second::step::first_address;
-use crate::witness::set_operand;
 
 /// What a generator of steps draws from.
 pub struct Steps {
@@ -296,4 +295,29 @@ impl Steps {
         machine.general = [0; 16].map(|_| self.random.within(0, 600) as u64);
         (machine, self.halves(kind, 2000))
     }
+}
+
+/// Writes the half that a source holds for a lane; nothing where it lies outside memory.
+pub fn set_operand(
+    step: &mut Step,
+    instruction: &Instruction,
+    source: Source,
+    lane: usize,
+    half: u16,
+) {
+    let register = match (source, instruction.second) {
+        (Source::Destination, _) => instruction.destination,
+        (Source::First, _) => instruction.first,
+        (Source::Second, Second::Register(register)) => register,
+        (Source::Second, Second::Memory { address, broadcast }) => {
+            let first = first_address(&step.machine, &address, instruction.length);
+            let offset = if broadcast { 0 } else { 2 * lane as u64 };
+            let at = first.wrapping_add(offset) as usize;
+            if let Some(word) = step.memory.get_mut(at..at.saturating_add(2)) {
+                word.copy_from_slice(&half.to_le_bytes());
+            }
+            return;
+        }
+    };
+    step.machine.set_lane(register, lane, half);
 }

@@ -9,10 +9,11 @@ use crate::differences::{on_a_processor, Difference};
 use crate::machine::{Step, StepOutcome, ALL_MASKED};
 use crate::processor::{model, Processor};
 use crate::random::{self, Random};
+use crate::random_step::set_operand;
 use crate::second;
 use crate::second::encoding::{decode, Instruction, Second, Source, LIST};
 use crate::step_line::shown_outcome;
-use crate::witness::{runnable, set_operand};
+use crate::witness::runnable;
 use std::path::PathBuf;
 
 pub fn path() -> PathBuf {

@@ -5,10 +5,10 @@ use crate::corners;
 use crate::differences::{on_a_processor, Difference};
 use crate::machine::{Step, StepOutcome, ALL_MASKED, VECTORS_SIZE};
 use crate::random;
-use crate::random_step::Steps;
+use crate::random_step::{set_operand, Steps};
 use crate::second;
-use crate::second::encoding::{decode, Instruction, Second, Source, LIST};
-use crate::second::step::{first_address, is_on};
+use crate::second::encoding::{decode, Instruction, LIST};
+use crate::second::step::is_on;
 
 /// How long the bytes are that the processor is to run; none where it cannot run the step. A
 /// reserved encoding (R4.8, R4.10) is one that the processor refuses, but that APX gives the two
@@ -206,31 +206,6 @@ impl WitnessSteps {
 
 /// Length bits 0, 1 and 2 of registers, of memory and broadcast, and four embedded modes.
 const SHAPES: usize = 13;
-
-/// Writes the half that a source holds for a lane; nothing where it lies outside memory.
-pub fn set_operand(
-    step: &mut Step,
-    instruction: &Instruction,
-    source: Source,
-    lane: usize,
-    half: u16,
-) {
-    let register = match (source, instruction.second) {
-        (Source::Destination, _) => instruction.destination,
-        (Source::First, _) => instruction.first,
-        (Source::Second, Second::Register(register)) => register,
-        (Source::Second, Second::Memory { address, broadcast }) => {
-            let first = first_address(&step.machine, &address, instruction.length);
-            let offset = if broadcast { 0 } else { 2 * lane as u64 };
-            let at = first.wrapping_add(offset) as usize;
-            if let Some(word) = step.memory.get_mut(at..at.saturating_add(2)) {
-                word.copy_from_slice(&half.to_le_bytes());
-            }
-            return;
-        }
-    };
-    step.machine.set_lane(register, lane, half);
-}
 
 #[cfg(test)]
 mod tests {

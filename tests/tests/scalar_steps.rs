@@ -1,4 +1,4 @@
-//! What a scalar row has nothing to do with: the length bits (R3.7), lanes above 0 (R5.1, R5.10),
+//! What makes no difference to a scalar row: the length bits (R3.7), lanes above 0 (R5.1, R5.10),
 //! memory beside its word (R5.6). Each is said of the library and of the second program by
 //! themselves: two steps that differ in such a thing alone are to end alike.
 
@@ -7,7 +7,7 @@ use ridgecrook_tests::library;
 use ridgecrook_tests::machine::{Machine, Step, StepOutcome};
 use ridgecrook_tests::random_step::Steps;
 use ridgecrook_tests::second;
-use ridgecrook_tests::second::encoding::{decode, scalar_rows, Instruction, Source};
+use ridgecrook_tests::second::encoding::{decode, scalar_rows, Instruction};
 
 type Program = (&'static str, fn(&Step) -> StepOutcome);
 
@@ -145,7 +145,7 @@ fn lanes_0(machine: &Machine) -> Vec<u16> {
 /// its own, and the rest 0; of any other register, and of any step that is not done, all stay.
 fn check_lanes_above(name: &str, step: &Step, outcome: &StepOutcome, instruction: &Instruction) {
     let (before, after) = (&step.machine, &outcome.after.machine);
-    let fused = instruction.listed.operands.contains(&Source::Destination);
+    let fused = instruction.listed.accumulates();
     let from = match fused {
         true => instruction.destination,
         false => instruction.first,

@@ -75,7 +75,7 @@ isFor r prefix map w opcode = eqb (r .0) prefix && eqb (r .1) map && eqb (r .2) 
 abbrev pub operation : Row → Operation
 operation r = r .4
 
--- R2.2: what its operands are.
+-- R2.2, R3.7: its operands, and whether it has one element.
 abbrev pub shape : Row → Shape
 shape r = r .5
 

@@ -21,7 +21,7 @@ pub enum Operation {
     Fused231,
 }
 
-// What a row says beyond what finds it and its operation (R2.2): whether there is one element, whether there is a first source, and
+// What a row says beyond what finds it and its operation (R2.2, R3.7): whether there is one element, whether there is a first source, and
 // whether the destination is an operand too.
 pub struct Shape {
     pub scalar: bool,
@@ -66,7 +66,7 @@ pub enum Operand {
     Memory { address: Address, broadcast: bool },
 }
 
-// The fields of an instruction. Elements are 1, 8, 16 or 32, one in each lane (R3.7); the size is the length in bytes (R3.14).
+// The fields of an instruction. Elements are 1, 8, 16 or 32, one to a lane from lane 0 on (R3.7); the size is the length in bytes (R3.14).
 pub struct Instruction {
     pub operation: Operation,
     pub shape: Shape,

@@ -37,7 +37,7 @@ const FUSED: Shape = Shape {
     accumulates: true,
 };
 
-// R2.2: one element.
+// R2.2, R3.7: one element.
 const SCALAR: Shape = Shape {
     scalar: true,
     first: true,
@@ -95,7 +95,7 @@ fn row_at(i: usize) -> Row
 }
 
 // No row before this one has the opcode, and none before the eighth behind it has it with the prefix F3.
-fn row_of(opcode: u8) -> usize
+fn start_of(opcode: u8) -> usize
     ensures { λ r. ⌜
         (some (λ row. eqb (row .3) opcode) (take r rows) ≡ false)
         × (some (λ row. eqb (row .0) 2 && eqb (row .3) opcode) (take (r + 8) rows) ≡ false)
@@ -121,7 +121,7 @@ fn row_of(opcode: u8) -> usize
 fn first_row(prefix: u8, opcode: u8) -> usize
     ensures { λ r. ⌜ ((map w : ℕ) → find (drop r rows) prefix map w opcode ≡ find rows prefix map w opcode) ⌝ }
 {
-    let number = row_of(opcode);
+    let number = start_of(opcode);
     if prefix == 2 {
         return number + 8;
     }

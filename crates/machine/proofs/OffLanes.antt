@@ -1,5 +1,5 @@
 -- The conditions of 7 and 8, as specs/OffLanes.antt has them: a search of all lanes finds one that is on, and one that is on is among
--- those searched, since an instruction has at most 32.
+-- those searched, since an instruction has at most 32. A scalar one has one.
 -- Assumes nothing.
 use Prim.Native.Nat.{ℕ, _≤_, _<_}
 use mathlib.Core.Path.{_≡_, refl, sym, _∙_}

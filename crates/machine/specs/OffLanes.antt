@@ -1,5 +1,6 @@
--- docs/RULES.md, R5.2: lanes that are off take no part. The conditions of 7 and 8 and the flags, spelt out. Their proofs are in
--- proofs/OffLanes.antt; that nothing is read for such a lane is a case of TwoRuns.antt, where it is hidden.
+-- docs/RULES.md, R5.2: lanes that are off take no part in what is computed. The conditions of 7 and 8 and the flags, spelt out; and which
+-- lanes a scalar instruction switches on (R5.1). Their proofs are in proofs/OffLanes.antt; that nothing open depends on such a lane is a
+-- case of TwoRuns.antt, where it is hidden.
 use Prim.Native.Nat.{ℕ, _≤_}
 use mathlib.Core.Path.{_≡_}
 use mathlib.Core.Logic.{_↔_, _≢_}

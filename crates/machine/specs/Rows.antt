@@ -102,7 +102,7 @@ TwoStages =
 
 -- ---- R12.5: scalar instructions, each register with other lanes than the others
 
--- a half in lane 0, and n more in each lane from 1 to 8
+-- a half in lane 0, and n + j in lane j, for j from 1 to 8
 abbrev counting : ℕ → ℕ → List ℕ
 counting half n = half ∷ (n + 1) ∷ (n + 2) ∷ (n + 3) ∷ (n + 4) ∷ (n + 5) ∷ (n + 6) ∷ (n + 7) ∷ (n + 8) ∷ []
 
@@ -110,12 +110,12 @@ counting half n = half ∷ (n + 1) ∷ (n + 2) ∷ (n + 3) ∷ (n + 4) ∷ (n + 
 abbrev pub scalarStart : ℕ → State
 scalarStart mask = stateWith (counting 0x4400 0x10) (counting 0x3C00 0x20) (counting 0x4400 0x30) mask 0x1F80 0
 
--- the same, with register 0 as a step has left it: a half in lane 0, lanes 1 to 7 from where they were, 0 above
+-- the same, with register 0 as a step has left it: a half in lane 0, lanes 1 to 7 those of the register with this n, 0 above
 abbrev scalarAfter : ℕ → ℕ → ℕ → State
 scalarAfter mask half n =
     stateWith (take 8 (counting half n) ++ replicate 24 0) (counting 0x3C00 0x20) (counting 0x4400 0x30) mask 0x1F80 6
 
--- code, mask 1, and what is left: the half of lane 0, and what stands before the lanes above it
+-- code, mask 1, and what is left: the half of lane 0, and the n of the register that lanes 1 to 7 come from
 abbrev pub scalarRows : List (List ℕ × ℕ × ℕ × ℕ)
 scalarRows =
     -- VADDSH of registers 1 and 2; the same with lane 0 off, and so with zeroing

@@ -36,7 +36,7 @@ pub record FileAfter (memory : List ℕ) (s : State) (i : Instruction) (after : 
   -- R5.9, R5.10: every byte above the elements and above lane 7 becomes 0
   pub above : (q : ℕ) → q < 64 → i .elements ≤ q / 2 → 16 ≤ q → byteAt after (i .destination) q ≡ 0
 
--- R5.9, R5.10: of every step that is done.
+-- R4.15, R5.9, R5.10: of every step that is done.
 abbrev pub VectorFile : Type 0
 VectorFile =
     (memory : List ℕ) (s : State) (code : List ℕ) (i : Instruction)

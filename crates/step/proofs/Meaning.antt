@@ -69,7 +69,7 @@ module _ (p : ℕ → Bool) where
     results-equal = λ i.
         record {
           halves = lanes-equal (λ (r : Element). r .value) i;
-          joined = ap orAll (lanes-equal (λ (r : Element). r .value)) i;
+          ored = ap orAll (lanes-equal (λ (r : Element). r .value)) i;
           flags = ap orAll (lanes-equal (λ (r : Element). r .flags)) i;
         }
 
@@ -78,7 +78,7 @@ module _ (p : ℕ → Bool) where
 module _ (s : State) (i : Instruction) (g : Sources) where
   results-are :
       resultsWhere (on s i) (i .operation) (environmentOf i (s .control)) g
-      ≡ record { halves = results s i g; joined = orAll (results s i g); flags = raised s i g }
+      ≡ record { halves = results s i g; ored = orAll (results s i g); flags = raised s i g }
   unfolding resultsWhere results raised
   results-are = refl
 
@@ -124,9 +124,9 @@ module _ (s : State) (i : Instruction) (g : Sources) where
       (off (q / 2) (omega arith)) (λ e. above-off s i (q / 2) (ltb-false _ _ e)) (λ e. ap (λ (n : ℕ). ltb (q / 2) n) (sym (one e)))))
 
   -- one half is all of them or-ed
-  joined-is : i .elements ≡ 1 → orAll (results s i g) ≡ getD (results s i g) 0 0
+  ored-is : i .elements ≡ 1 → orAll (results s i g) ≡ getD (results s i g) 0 0
   unfolding results
-  joined-is one = sym (one-lane (on s i) _ (λ j h. above-off s i j (rw one h))) ∙ sym (lane-half (on s i) _)
+  ored-is one = sym (one-lane (on s i) _ (λ j h. above-off s i j (rw one h))) ∙ sym (lane-half (on s i) _)
 
   -- so that it counts for them
   counts : (scalar : Bool) (kept : ℕ → Bool) (m n : ℕ) → (scalar ≡ true → orAll (results s i g) ≡ getD (results s i g) 0 0)
@@ -138,10 +138,10 @@ module _ (s : State) (i : Instruction) (g : Sources) where
 
   stored-is : (i .shape .scalar ≡ true → i .elements ≡ 1)
       → vectorsWith (storedBy (on s i) i) (s .vectors)
-      (halvesOf i (record { halves = results s i g; joined = orAll (results s i g); flags = raised s i g })) (i .destination)
+      (halvesOf i (record { halves = results s i g; ored = orAll (results s i g); flags = raised s i g })) (i .destination)
       ≡ vectorsAfter s i (results s i g)
   stored-is one =
-      counts (i .shape .scalar) (keptBy (on s i) i) (upperFrom i) (i .destination) (λ e. joined-is (one e)) ∙ all-stored one
+      counts (i .shape .scalar) (keptBy (on s i) i) (upperFrom i) (i .destination) (λ e. ored-is (one e)) ∙ all-stored one
 
 -- ---- the whole, from what the parts give
 
@@ -180,7 +180,7 @@ module _ (memory : List ℕ) (s : State) (i : Instruction) (p : ℕ → Bool) (e
     computed-is : r
         ≡ record {
           halves = results s i (gathered memory s i);
-          joined = orAll (results s i (gathered memory s i));
+          ored = orAll (results s i (gathered memory s i));
           flags = raised s i (gathered memory s i);
         }
     unfolding gathered

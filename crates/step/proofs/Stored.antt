@@ -1,4 +1,5 @@
--- A turn of the loop that stores lanes: a lane that is kept is left in place, and the two bytes of any other are stored.
+-- A turn of the loop that stores lanes: a lane that is kept is left in place, and the two bytes of any other are stored. And a register in
+-- its file.
 -- Assumes nothing.
 use Prim.Native.Nat.{ℕ, _+_, _-_, _*_, _/_, _%_, _^_, _<_, _≤_}
 use mathlib.Core.Path.{_≡_, refl, sym, _∙_}

@@ -49,7 +49,7 @@ unfoldable pub resultsWhere : (ℕ → Bool) → Operation → Environment → S
 resultsWhere on op e g =
     record {
       halves = lanesOn on (λ j. elementAt op e g j .value);
-      joined = orAll (lanesOn on (λ j. elementAt op e g j .value));
+      ored = orAll (lanesOn on (λ j. elementAt op e g j .value));
       flags = orAll (lanesOn on (λ j. elementAt op e g j .flags));
     }
 
@@ -70,7 +70,7 @@ storedBy on i j =
 
 -- the halves that count
 abbrev pub halvesOf : Instruction → Results → List ℕ
-halvesOf i r = cond (i .shape .scalar) (r .joined ∷ []) (r .halves)
+halvesOf i r = cond (i .shape .scalar) (r .ored ∷ []) (r .halves)
 
 -- ---- the whole
 

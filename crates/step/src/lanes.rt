@@ -15,10 +15,10 @@ use half::sum;
 use machine::Element;
 use machine::Environment;
 
-// 0 in lanes that are off. `joined` is all halves or-ed: of a scalar instruction the one that it has, without a look into the array.
+// 0 in lanes that are off. `ored` is all halves or-ed: of a scalar instruction the one that it has, without a look into the array.
 pub struct Results {
     pub halves: [u16; 32],
-    pub joined: u16,
+    pub ored: u16,
     pub flags: u8,
 }
 
@@ -60,7 +60,7 @@ pub(crate) fn all_lanes(
     ensures { λ r. ⌜ r ≡ resultsWhere (isSet on) operation e (record { destination = d; first = f; second = x }) ⌝ }
 {
     let mut halves = [0u16; 32];
-    let mut joined = 0u16;
+    let mut ored = 0u16;
     let mut flags = 0u8;
     let end = end_of(on);
     for j in 0..end {
@@ -69,12 +69,12 @@ pub(crate) fn all_lanes(
         }
         let r = operate(operation, e, d[j], f[j], x[j]);
         halves[j] = r.value;
-        joined = joined | r.value;
+        ored = ored | r.value;
         flags = flags | r.flags;
     }
     Results {
         halves,
-        joined,
+        ored,
         flags,
     }
 }

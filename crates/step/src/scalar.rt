@@ -45,7 +45,7 @@ fn lower_lanes(vectors: &[u8], n: usize) -> [u8; 64]
     bytes
 }
 
-// Writes a register, and then the two bytes of its lane 0. So the 64 are copied whole.
+// Writes a register, and then the two bytes of its lane 0: the 64 are copied in one piece.
 fn store_around(register: &mut [u8], bytes: [u8; 64], low: u8, high: u8)
     requires { ⌜ length (now register) ≡ 64 ⌝ }
     ensures { λ _. ⌜ now (register .exit) ≡ set (set (table 64 (λ q. getD bytes q 0)) 0 low) 1 high ⌝ }

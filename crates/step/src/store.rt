@@ -1,4 +1,5 @@
-// The destination (R5.9): the lanes that are not kept are written, with 0 where they are off; the others are left in place.
+// The destination (R5.9): the lanes that are not kept are written, with 0 where they are off; the others are left in place. That of a scalar
+// instruction is stored in scalar.rt.
 ghost use mathlib.Core.Path.{_≡_};
 ghost use Prim.Native.Nat.{_+_, _*_, _/_, _%_, _<_};
 ghost use lib.ListN.{length, set};
@@ -90,7 +91,7 @@ pub(crate) fn store(vectors: &mut [u8], on: u32, i: Instruction, results: Result
     let kept = lanes_kept(on, i);
     let shape = i.shape;
     if shape.scalar {
-        store_scalar(vectors, i.destination, upper_from(i), kept, results.joined);
+        store_scalar(vectors, i.destination, upper_from(i), kept, results.ored);
         return;
     }
     let halves = results.halves;

@@ -72,11 +72,10 @@ fn reserved() -> (u64, u64) {
     for (place, code) in codes.iter().enumerate() {
         let start = format!("{:x}: ", 16 * place);
         let line = lines.find(|line| line.starts_with(&start));
-        let line = line.unwrap_or_default();
-        let is_bad = line.contains("(bad)") || line.contains("{bad}");
-        if is_bad != (decode(code).err() == Some(5)) {
+        let is_bad = |line: &String| line.contains("(bad)") || line.contains("{bad}");
+        if line.as_ref().map(is_bad) != Some(decode(code).err() == Some(5)) {
             wrong += 1;
-            println!("{:02X?} => {line}", &code[..6]);
+            println!("{:02X?} => {line:?}", &code[..6]);
         }
     }
     (codes.len() as u64, wrong)

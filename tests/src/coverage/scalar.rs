@@ -1,6 +1,6 @@
 //! Features of scalar rows: one element, in lane 0 (R3.7), lanes 1 to 7 that are copied (R5.10).
 
-use super::{form, single_bit, single_bit_or_both, yes, Feature, Seen};
+use super::{form, one_or_both, single_bit, yes, Feature, Seen};
 use crate::case::Operation;
 use crate::second::encoding::{Second, Source};
 
@@ -28,7 +28,7 @@ pub const FEATURES: &[Feature] = &[
     ),
     (
         "scalar, lane 0 on, off: lanes 1 to 7 of another first source, of the destination as such; \
-         a fused one's own, beside another first source, beside itself",
+         a fused one's own, with another first source, with itself as such",
         8,
         upper_lanes,
     ),
@@ -61,7 +61,7 @@ pub const FEATURES: &[Feature] = &[
                 return None;
             };
             let (destination, first) = (instruction.destination, instruction.first);
-            single_bit_or_both(second == destination, second == first)
+            one_or_both(second == destination, second == first)
         },
     ),
     (

@@ -31,6 +31,11 @@ impl Listed {
         self.upper.is_some()
     }
 
+    /// R2.2: whether what the destination held is an operand.
+    pub fn accumulates(&self) -> bool {
+        self.operands.contains(&Source::Destination)
+    }
+
     /// R2.2: whether the five first-source bits name a register that is read: every row's but
     /// VSQRTPH's.
     pub fn takes_first(&self) -> bool {

@@ -89,16 +89,19 @@ add-if6 c = search needs
 
 returns-7 : tie.Need-returns-7
 returns-7 c =
-    missing (rowed (c .before .before .before)) (sized _ _ (c .before .before .displacement-at .ensures .0) (c .before .displacement-size .ensures .0)) (c .if6 .taken)
+    let placed : tie.After-displacement-size = c .before in
+    missing (rowed (placed .before .before))
+    (sized _ _ (placed .before .displacement-at .ensures .0) (placed .displacement-size .ensures .0)) (c .if6 .taken)
 
 instruction-requires : tie.Need-instruction-requires
 instruction-requires c κs = search needs
 
 returns-8 : tie.Need-returns-8
 returns-8 c =
+    let placed : tie.After-displacement-size = c .before .before in
     rw (c .instruction .ensures)
-    (accepted (rowed (c .before .before .before .before)) (sized _ _ (c .before .before .before .displacement-at .ensures .0) (c .before .before .displacement-size .ensures .0))
-    (c .before .if6 .left))
+    (accepted (rowed (placed .before .before))
+    (sized _ _ (placed .before .displacement-at .ensures .0) (placed .displacement-size .ensures .0)) (c .before .if6 .left))
 
 pub decode-spec : {M : Type 1} → statement M
 decode-spec =

@@ -7,8 +7,8 @@ use Rattle.evex.proofs.Search.{skips, without}
 use Rattle.evex.proofs.list.first_row.Statement.{statement}
 use Rattle.evex.proofs.list.first_row.Tie as tie
 
-row-of-requires : tie.Need-row-of-requires
-row-of-requires c κs = search needs
+start-of-requires : tie.Need-start-of-requires
+start-of-requires c κs = search needs
 
 add-result : tie.Need-add-result
 add-result c = search needs
@@ -16,14 +16,14 @@ add-result c = search needs
 returns : tie.Need-returns
 returns c = λ map w.
     rw (c .if1 .taken)
-    (skips rows (c .before .row-of .result + 8) 2 map w (c .before .before .args .opcode) (c .before .row-of .ensures .1))
+    (skips rows (c .before .start-of .result + 8) 2 map w (c .before .before .args .opcode) (c .before .start-of .ensures .1))
 
 returns-2 : tie.Need-returns-2
 returns-2 c = λ map w.
     let args = c .before .before .args in
-    let number = c .before .row-of .result in
+    let number = c .before .start-of .result in
     skips rows number (args .prefix) map w (args .opcode)
-    (without (take number rows) (args .prefix) (args .opcode) (c .before .row-of .ensures .0))
+    (without (take number rows) (args .prefix) (args .opcode) (c .before .start-of .ensures .0))
 
 pub first-row-spec : {M : Type 1} → statement M
-first-row-spec = tie.close (tie.spec row-of-requires add-result returns returns-2)
+first-row-spec = tie.close (tie.spec start-of-requires add-result returns returns-2)

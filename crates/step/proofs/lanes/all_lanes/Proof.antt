@@ -1,4 +1,4 @@
--- `step::lanes::all_lanes` meets its contract: the loop fills the results lane by lane, and or-s the flags; no lane is on behind them.
+-- `step::lanes::all_lanes` meets its contract: the loop fills the results lane by lane, and or-s the halves and the flags; no lane is on behind them.
 use Prim.Native.Nat.{_-_, _<_}
 use mathlib.Core.Path.{refl, _∙_, sym}
 use mathlib.Core.Bool.{cond}
@@ -16,14 +16,14 @@ use Rattle.step.proofs.lanes.all_lanes.Statement.{statement}
 use Rattle.step.proofs.lanes.all_lanes.Tie as tie
 
 abbrev Inv-loop : tie.InvT-loop
-Inv-loop on operation e d f x halves₀ joined₀ flags₀ end j₀ halves joined flags j =
+Inv-loop on operation e d f x halves₀ ored₀ flags₀ end j₀ halves ored flags j =
     let element = elementAt operation e (record { destination = d; first = f; second = x }) in
     Filled (λ k. cond (isSet on k) (element k .value) 0) 32 halves₀ halves j
-    × Ored (λ k. cond (isSet on k) (element k .value) 0) joined j
+    × Ored (λ k. cond (isSet on k) (element k .value) 0) ored j
     × Ored (λ k. cond (isSet on k) (element k .flags) 0) flags j
 
 abbrev μ-loop : tie.MeasureT-loop
-μ-loop on operation e d f x halves₀ joined₀ flags₀ end j₀ halves joined flags j = end - j
+μ-loop on operation e d f x halves₀ ored₀ flags₀ end j₀ halves ored flags j = end - j
 
 end-of-requires : tie.Need-end-of-requires Inv-loop μ-loop
 end-of-requires c κs = search needs
@@ -101,7 +101,7 @@ returns c =
       halves =
           all (c .before .loop .inv .0)
           (λ k h l. getD-replicate 32 k 0 0 l ∙ sym (rw (bit-above _ _ k (end .0) (le-trans (c .loop-test .left) h)))) i;
-      joined =
+      ored =
           or-all (c .before .loop .inv .1) (c .before .loop .inv .0 .within)
           (λ k h. rw (bit-above _ _ k (end .0) (le-trans (c .loop-test .left) h))) i;
       flags =

@@ -47,11 +47,12 @@ same-length c = search needs
 
 returns : tie.Need-returns
 returns c =
-    let args = c .before .before .before .before .before .before .before .before .before .before .before .args in
+    let asked : tie.After-has = c .before .before .before .before .before .before .before in
+    let args = asked .before .before .before .before .args in
     let e : args .n * 64 + 64 - args .n * 64 ≡ 64 = omega arith in
-    rw (c .before .before .store-around .ensures, c .before .before .before .before .before .before .before .before .lower-lanes .ensures, e)
+    rw (c .before .before .store-around .ensures, asked .before .lower-lanes .ensures, e)
     (lane-kept (isSet (args .kept)) (args .half ∷ []) (args .from) (args .n) (args .vectors .now)
-    (sym (c .before .before .before .before .before .before .before .has .ensures) ∙ c .before .before .before .before .before .before .if1 .taken))
+    (sym (asked .has .ensures) ∙ c .before .before .before .before .before .before .if1 .taken))
 
 sub-store-around-2 : tie.Need-sub-store-around-2
 sub-store-around-2 c = search needs
@@ -76,11 +77,18 @@ same-length-2 c = search needs
 
 returns-2 : tie.Need-returns-2
 returns-2 c =
-    let args = c .before .before .before .before .before .before .before .before .before .before .before .args in
+    let asked : tie.After-has = c .before .before .before .before .before .before .before in
+    let args = asked .before .before .before .before .args in
     let e : args .n * 64 + 64 - args .n * 64 ≡ 64 = omega arith in
-    rw (c .before .before .store-around2 .ensures, c .before .before .before .before .before .before .before .before .lower-lanes .ensures, c .before .before .before .before .low-byte .ensures, c .before .before .before .high-byte .ensures, e)
+    rw (
+      c .before .before .store-around2 .ensures,
+      asked .before .lower-lanes .ensures,
+      c .before .before .before .before .low-byte .ensures,
+      c .before .before .before .high-byte .ensures,
+      e,
+    )
     (lane-stored (isSet (args .kept)) (args .half ∷ []) (args .from) (args .n) (args .vectors .now)
-    (sym (c .before .before .before .before .before .before .before .has .ensures) ∙ c .before .before .before .before .before .before .if1 .left))
+    (sym (asked .has .ensures) ∙ c .before .before .before .before .before .before .if1 .left))
 
 pub store-scalar-spec : {M : Type 1} → statement M
 store-scalar-spec =

@@ -1,9 +1,9 @@
--- `evex::list::row_of` meets its contract: by the opcode; of an opcode that is not named nothing is passed.
+-- `evex::list::start_of` meets its contract: by the opcode; of one that is not named row 0 serves, and with F3 the eighth behind it.
 use mathlib.Core.Path.{refl}
 use lib.Dec.{lit≤}
 use Rattle.evex.specs.List.{rows}
-use Rattle.evex.proofs.list.row_of.Statement.{statement}
-use Rattle.evex.proofs.list.row_of.Tie as tie
+use Rattle.evex.proofs.list.start_of.Statement.{statement}
+use Rattle.evex.proofs.list.start_of.Tie as tie
 
 returns : tie.Need-returns
 unfolding rows
@@ -49,8 +49,8 @@ returns-11 : tie.Need-returns-11
 unfolding rows
 returns-11 c = (refl, refl, lit≤ tt)
 
-pub row-of-spec : {M : Type 1} → statement M
-row-of-spec =
+pub start-of-spec : {M : Type 1} → statement M
+start-of-spec =
     tie.close
     (tie.spec
     returns
