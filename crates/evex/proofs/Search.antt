@@ -1,5 +1,5 @@
--- A search of the list of instructions: it ends at the first row, or goes on after it; which rows it may pass, and what no row that it finds
--- is.
+-- A search of the list of instructions: it ends at the first row, or goes on after it; which rows it may pass; and what no row is that it
+-- finds.
 -- Assumes nothing.
 use mathlib.Core.Path.{_≡_, refl}
 use mathlib.Core.Bool.{Bool, true, false, _&&_, and-false, true≢false}

@@ -1,5 +1,5 @@
-// The destination (R5.9): the lanes that are not kept are written, with 0 where they are off; the others are left in place. That of a scalar
-// instruction is stored in scalar.rt.
+// The destination (R5.9): the lanes that are not kept are written, with 0 where they are off; the others are left in place. Of a
+// scalar instruction it is stored in scalar.rt.
 ghost use mathlib.Core.Path.{_≡_};
 ghost use Prim.Native.Nat.{_+_, _*_, _/_, _%_, _<_};
 ghost use lib.ListN.{length, set};

@@ -1,4 +1,5 @@
--- `step::lanes::all_lanes` meets its contract: the loop fills the results lane by lane, and or-s the halves and the flags; no lane is on behind them.
+-- `step::lanes::all_lanes` meets its contract: the loop fills the results lane by lane, and or-s the halves and the flags; no lane is on
+-- behind them.
 use Prim.Native.Nat.{_-_, _<_}
 use mathlib.Core.Path.{refl, _∙_, sym}
 use mathlib.Core.Bool.{cond}
