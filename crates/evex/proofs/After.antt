@@ -14,7 +14,9 @@ use lib.Seq.{getD-take, length-take-le, take-all}
 use Rattle.lists.specs.Lists.{firstOf, NoneHolds}
 use Rattle.lists.proofs.First.{none-append}
 use Rattle.evex.specs.Bits.{byte}
-use Rattle.evex.specs.Fields.{headOf, takesSib, listed, hasSib, displacementAt, displacementSize, size, displacementOf, instruction}
+use Rattle.evex.specs.List.{shape}
+use Rattle.evex.specs.Fields.{headOf, takesSib, listed, hasSib, displacementAt, displacementSize, displacementOf, immediateAt}
+use Rattle.evex.specs.Fields.{immediateOf, size, instruction}
 use Rattle.evex.specs.Decode.{noBytes, wrongFirstByte, fewerThanSixBytes, reservedForms, bytesMissing, headConditions, rowConditions}
 use Rattle.evex.specs.Decode.{refusals, fields, decoded}
 use Rattle.evex.specs.Sizes.{longest}
@@ -27,7 +29,7 @@ use Rattle.evex.specs.declared.Refusal.the-variants.{Reserved}
 use Rattle.evex.specs.declared.Decoded.{Decoded}
 use Rattle.evex.specs.declared.Decoded.the-variants.{Fields, Refused}
 use Rattle.evex.proofs.Order.{answers}
-use Rattle.evex.proofs.Bounds.{size-least, size-most}
+use Rattle.evex.proofs.Lengths.{size-least, size-most}
 
 -- ---- what is decoded, and when
 
@@ -158,9 +160,18 @@ module _ {code other : List ℕ} {n : ℕ} (same : Same code other n) where
             )
         go false false e f = rw (e, f)
 
+    same-immediate : immediateOf (headOf code) row other ≡ immediateOf (headOf code) row code
+    unfolding immediateOf size
+    same-immediate = go (shape row .immediate) refl
+      where
+        go : (t : Bool) → shape row .immediate ≡ t
+            → cond t (byte other (immediateAt (headOf code) row)) 0 ≡ cond t (byte code (immediateAt (headOf code) row)) 0
+        go true e = let all : immediateAt (headOf code) row + 1 ≤ n = rw e at fits in same .bytes (immediateAt (headOf code) row) (omega arith)
+        go false e = refl
+
     same-instruction : instruction (headOf code) row other ≡ instruction (headOf code) row code
     unfolding instruction
-    same-instruction = rw same-displacement
+    same-instruction = rw (same-displacement, same-immediate)
 
     same-listed : listed (headOf code) ≡ Found row → decoded other ≡ decoded code
     unfolding decoded refusals

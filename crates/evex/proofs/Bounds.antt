@@ -1,25 +1,25 @@
--- The ranges of a decoded instruction's fields, for whoever uses them as indices: each is a few bits, so they hold of any bytes.
+-- The ranges of a decoded instruction's fields, for whoever uses them as indices: each is a few bits, so they hold of any bytes, but for
+-- the number of a mask that is written, which a reserved form keeps below 8. And a comparison alone writes one.
 -- Assumes nothing.
-use mathlib.Core.Path.{_≡_, subst}
-use mathlib.Core.Bool.{Bool, true, not, _&&_, _||_}
-use mathlib.Core.List.{List, [], _∷_, map}
+use mathlib.Core.Path.{_≡_, sym, ap, subst, _∙_}
+use mathlib.Core.Bool.{Bool, true, false, cond, not, _&&_}
+use mathlib.Core.List.{List}
 use Prim.Native.Nat.{ℕ, _≤_, _<_}
 use native.Mathlib.Omega.{arith}
-use native.Mathlib.Nat.{add-le-add, le-trans, le-add-right}
-use lib.Dec.{eqb, lit≤}
+use borrow.Author.Tests.{ltb-false}
+use lib.Dec.{eqb, ltb, lit≤}
 use lib.IntN.{ℤ}
-use Rattle.lists.specs.Lists.{firstOf}
 use Rattle.lists.proofs.Tests.{either}
 use Rattle.evex.specs.List.{shape}
-use Rattle.evex.specs.Fields.{headOf, lengthBits, modBits, listed, destination, first, registerForm, registerB, vectorLanes}
-use Rattle.evex.specs.Fields.{elements, hasSib, baseBits, indexNumber, indexOf, noBase, baseOf, displacementAt}
-use Rattle.evex.specs.Fields.{displacementSize, size, displacementOf, second, instruction}
-use Rattle.evex.specs.Decode.{refusals, fields, decoded}
-use Rattle.evex.specs.Sizes.{shortest, longest}
+use Rattle.evex.specs.Fields.{headOf, lengthBits, destination, destinationOf, first, registerForm, registerB, vectorLanes, elements}
+use Rattle.evex.specs.Fields.{hasSib, baseBits, indexNumber, indexOf, noBase, baseOf, displacementOf, second, instruction}
+use Rattle.evex.specs.Decode.{noSuchMask, reservedForms, decoded}
+use Rattle.evex.specs.Sizes.{longest}
 use Rattle.evex.specs.declared.head.Head.{Head}
 use Rattle.evex.specs.declared.list.Row.{Row}
-use Rattle.evex.specs.declared.list.Listed.{Listed}
-use Rattle.evex.specs.declared.list.Listed.the-variants.{Found, Nothing}
+use Rattle.evex.specs.declared.Operation.the-variants.{Compare}
+use Rattle.evex.specs.declared.Destination.{Destination}
+use Rattle.evex.specs.declared.Destination.the-variants.{Vector, Mask}
 use Rattle.evex.specs.declared.Source.{Source}
 use Rattle.evex.specs.declared.Source.the-variants as source
 use Rattle.evex.specs.declared.Base.{Base}
@@ -29,9 +29,14 @@ use Rattle.evex.specs.declared.Index.the-variants as index
 use Rattle.evex.specs.declared.Operand.{Operand}
 use Rattle.evex.specs.declared.Operand.the-variants as operand
 use Rattle.evex.specs.declared.Instruction.{Instruction}
-use Rattle.evex.specs.declared.Refusal.{Refusal}
-use Rattle.evex.specs.declared.Decoded.{Decoded}
-use Rattle.evex.specs.declared.Decoded.the-variants.{Fields, Refused}
+use Rattle.evex.specs.declared.Decoded.the-variants.{Fields}
+use Rattle.evex.proofs.Lengths.{size-most}
+use Rattle.evex.proofs.After.{whole}
+use Rattle.evex.proofs.Compared.{mask-compares}
+
+abbrev pub DestinationIn : Destination → Type 0
+DestinationIn (Vector n) = n < 32
+DestinationIn (Mask n) = n < 8
 
 abbrev pub SourceIn : Source → Type 0
 SourceIn source.None = Unit {0}
@@ -54,7 +59,8 @@ pub record Bounds (i : Instruction) : Type 0 where
   pub elements : i .elements ≤ 32
   pub one : i .shape .scalar ≡ true → i .elements ≡ 1
   pub mask : i .mask < 8
-  pub destination : i .destination < 32
+  pub destination : DestinationIn (i .destination)
+  pub compared : (n : ℕ) → i .destination ≡ Mask n → i .operation ≡ Compare
   pub first : SourceIn (i .first)
   pub second : OperandIn (i .second)
   pub size : i .size ≤ longest
@@ -67,9 +73,6 @@ module _ (h : Head) where
   lanes-in =
       either (λ n. n ≤ 32) (registerB h) (lit≤ tt)
       (either (λ n. n ≤ 32) (eqb (lengthBits h) 0) (lit≤ tt) (either (λ n. n ≤ 32) (eqb (lengthBits h) 1) (lit≤ tt) (lit≤ tt)))
-
-  destination-in : destination h < 32
-  destination-in = omega arith
 
   base-bits-in : baseBits h ≤ 7
   unfolding baseBits
@@ -104,47 +107,37 @@ module _ (h : Head) (row : Row) where
   unfolding elements
   one-in e = rw e
 
-  pub size-most : size h row ≤ longest
-  unfolding size displacementAt displacementSize
-  size-most =
-      add-le-add (either (λ n. n ≤ 7) (hasSib h) (lit≤ tt) (lit≤ tt))
-      (either (λ n. n ≤ 4) (eqb (modBits h) 1) (lit≤ tt) (either (λ n. n ≤ 4) (eqb (modBits h) 2 || noBase h) (lit≤ tt) (lit≤ tt)))
+  -- a mask's number is below 8 where none of the reserved forms is
+  destination-by : noSuchMask h row ≡ false → DestinationIn (destinationOf h row)
+  unfolding noSuchMask destinationOf
+  destination-by none = go (shape row .mask) none
+    where
+      go : (t : Bool) → (t && ltb 7 (destination h)) ≡ false → DestinationIn (cond t (Mask (destination h)) (Vector (destination h)))
+      go true e = omega (arith, ltb-false 7 (destination h) e)
+      go false e = omega arith
 
-  pub size-least : shortest ≤ size h row
-  unfolding size displacementAt
-  size-least = le-trans (either (λ n. 6 ≤ n) (hasSib h) (lit≤ tt) (lit≤ tt)) (le-add-right _ (displacementSize h))
-
-  instruction-in : (code : List ℕ) → Bounds (instruction h row code)
+  instruction-in : (code : List ℕ) → noSuchMask h row ≡ false
+      → ((n : ℕ) → instruction h row code .destination ≡ Mask n → instruction h row code .operation ≡ Compare)
+      → Bounds (instruction h row code)
   unfolding instruction
-  instruction-in code =
+  instruction-in code none compares =
       record {
         elements = elements-in;
         one = one-in;
         mask = omega arith;
-        destination = destination-in h;
+        destination = destination-by none;
+        compared = compares;
         first = first-in;
         second = second-in h (displacementOf h row code);
-        size = size-most;
+        size = size-most h row;
       }
 
 -- ---- the whole
 
-abbrev DecodedIn : Decoded → Type 0
-DecodedIn (Fields i) = Bounds i
-DecodedIn (Refused r) = Unit {0}
-
-fields-in : (h : Head) (code : List ℕ) (l : Listed) → DecodedIn (fields h code l)
-fields-in h code (Found row) = instruction-in h row code
-fields-in h code Nothing = tt
-
-first-of : (cs : List (Bool × Refusal)) (d : Decoded) → DecodedIn d → DecodedIn (firstOf (map (λ c. (c .0, Refused (c .1))) cs) d)
-first-of [] d p = p
-first-of (c ∷ cs) d p = either DecodedIn (c .0) tt (first-of cs d p)
-
-decoded-in : (code : List ℕ) → DecodedIn (decoded code)
-unfolding decoded
-decoded-in code =
-    first-of (refusals code) (fields (headOf code) code (listed (headOf code))) (fields-in (headOf code) code (listed (headOf code)))
-
 pub bounds : (code : List ℕ) {i : Instruction} → decoded code ≡ Fields i → Bounds i
-bounds code e = subst DecodedIn e (decoded-in code)
+unfolding reservedForms
+bounds code e =
+    let w = whole code e in
+    subst Bounds (sym (w .is))
+    (instruction-in (headOf code) (w .row) code (w .plain .1 .1 .1 .1 .1 .0)
+    (λ n to. mask-compares code (instruction (headOf code) (w .row) code) n (e ∙ ap Fields (w .is)) to))

@@ -4,7 +4,9 @@ pub mod Signed
 pub mod Search
 pub mod Order
 pub mod Answer
-pub mod Bounds
+pub mod Lengths
 pub mod After
+pub mod Compared
+pub mod Bounds
 pub mod Sizes
 pub mod Scalar

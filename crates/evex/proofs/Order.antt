@@ -8,6 +8,7 @@ use borrow.Author.Tests.{ne-eqb, lt-ltb, le-ltb}
 use lib.ListN.{length, drop}
 use Rattle.lists.specs.Lists.{some, firstOf}
 use Rattle.evex.specs.Bits.{byte}
+use Rattle.evex.specs.List.{shape}
 use Rattle.evex.specs.Fields.{headOf, listed, displacementAt, displacementSize, size, instruction}
 use Rattle.evex.specs.Decode.{noBytes, wrongFirstByte, fewerThanSixBytes, wrongFixedBits, notInList, reservedForms, bytesMissing}
 use Rattle.evex.specs.Decode.{headConditions, rowConditions, refusals, fields, decoded}
@@ -35,15 +36,11 @@ pub record Headed (code : List ℕ) (h : Head) : Type 0 where
 abbrev pub isReserved : Head → Row → Bool
 isReserved h row = some (λ reserved. reserved) (reservedForms h row)
 
-pub record Rowed (code : List ℕ) (h : Head) (row : Row) : Type 0 where
-  pub headed : Headed code h
-  pub found : listed h ≡ Found row
-  pub plain : isReserved h row ≡ false
-
--- the length, by its two parts
-pub sized : (h : Head) (row : Row) {at bytes : ℕ} → at ≡ displacementAt h → bytes ≡ displacementSize h → at + bytes ≡ size h row
+-- the length, by its parts
+pub sized : (h : Head) (row : Row) {at bytes n : ℕ} → at ≡ displacementAt h → bytes ≡ displacementSize h
+    → n ≡ at + bytes + cond (shape row .immediate) 1 0 → n ≡ size h row
 unfolding size
-sized h row e f = rw (e, f)
+sized h row e f g = rw (g, e, f)
 
 -- ---- conditions with what they give
 
@@ -80,9 +77,9 @@ module _ (code : List ℕ) where
 
 -- ---- the conditions of the head
 
--- the last condition, and the fields
-abbrev ending : List ℕ → Head → Row → Decoded
-ending code h row = cond (bytesMissing h row code) (Refused Incomplete) (Fields (instruction h row code))
+-- what is left of the order behind them
+abbrev fromRow : List ℕ → Head → Row → Decoded
+fromRow code h row = firstOf (answers (rowConditions h code row)) (Fields (instruction h row code))
 
 module _ {code : List ℕ} {h : Head} where
   pub fixed-bits : Begun code → h ≡ headOf code → wrongFixedBits h ≡ true → Refused Reserved ≡ decoded code
@@ -93,21 +90,29 @@ module _ {code : List ℕ} {h : Head} where
   unfolding refusals headConditions notInList
   unlisted g n = rw (← rest code (g .begun), ← g .head, g .fixed, n)
 
-  module _ {row : Row} where
-    after-list : Headed code h → listed h ≡ Found row → cond (isReserved h row) (Refused Reserved) (ending code h row) ≡ decoded code
-    unfolding refusals headConditions rowConditions notInList
-    after-list g found =
-        rw (← rest code (g .begun), ← g .head, g .fixed, found)
-        (sym (of-any (reservedForms h row) Reserved _ _))
+  pub listed-row : {row : Row} → Headed code h → listed h ≡ Found row → fromRow code h row ≡ decoded code
+  unfolding refusals headConditions notInList
+  listed-row g found = rw (← rest code (g .begun), ← g .head, g .fixed, found)
 
-    pub reserved : Headed code h → listed h ≡ Found row → isReserved h row ≡ true → Refused Reserved ≡ decoded code
-    reserved g found t = rw (← after-list g found, t)
+-- ---- the conditions of the row
 
-    module _ (g : Rowed code h row) {n : ℕ} (e : n ≡ size h row) where
-      pub missing : length code < n → Refused Incomplete ≡ decoded code
-      unfolding bytesMissing
-      missing s = rw (← after-list (g .headed) (g .found), g .plain, ← e, lt-ltb (length code) n s)
+-- the last of them, and the fields
+abbrev ending : List ℕ → Head → Row → Decoded
+ending code h row = cond (bytesMissing h row code) (Refused Incomplete) (Fields (instruction h row code))
 
-      pub accepted : n ≤ length code → Fields (instruction h row code) ≡ decoded code
-      unfolding bytesMissing
-      accepted s = rw (← after-list (g .headed) (g .found), g .plain, ← e, le-ltb (length code) n s)
+module _ (code : List ℕ) (h : Head) (row : Row) where
+  after-list : cond (isReserved h row) (Refused Reserved) (ending code h row) ≡ fromRow code h row
+  unfolding rowConditions
+  after-list = sym (of-any (reservedForms h row) Reserved _ _)
+
+  pub reserved : isReserved h row ≡ true → Refused Reserved ≡ fromRow code h row
+  reserved t = rw (← after-list, t)
+
+  module _ (plain : isReserved h row ≡ false) {n : ℕ} (e : n ≡ size h row) where
+    pub missing : length code < n → Refused Incomplete ≡ fromRow code h row
+    unfolding bytesMissing
+    missing s = rw (← after-list, plain, ← e, lt-ltb (length code) n s)
+
+    pub accepted : n ≤ length code → Fields (instruction h row code) ≡ fromRow code h row
+    unfolding bytesMissing
+    accepted s = rw (← after-list, plain, ← e, le-ltb (length code) n s)

@@ -34,7 +34,7 @@ module _ {l m : List Row} {r : Row} (prefix map w opcode : ℕ) (e : l ≡ r ∷
 pub nothing-left : (l : List Row) (prefix map w opcode i : ℕ) → length l ≤ i → Nothing ≡ find (drop i l) prefix map w opcode
 nothing-left l prefix map w opcode i h = rw (drop-of-length-le l {i = i} h)
 
--- rows that are passed, since none of them has the opcode, or none has it with the prefix
+-- rows that are passed, since none of them has the prefix and the opcode
 pub skips : (l : List Row) (n prefix map w opcode : ℕ) → some (λ row. eqb (row .0) prefix && eqb (row .3) opcode) (take n l) ≡ false
     → find (drop n l) prefix map w opcode ≡ find l prefix map w opcode
 skips l zero prefix map w opcode e = refl

@@ -5,10 +5,10 @@ use Rattle.evex.specs.List.{rows}
 use Rattle.evex.specs.Fields.{takesSib, headOf, listed, registerForm, registerB, hasSib, baseBits, noBase, displacementAt}
 use Rattle.evex.specs.Fields.{displacementSize, size, instruction}
 use Rattle.evex.specs.Decode.{noBytes, wrongFirstByte, fewerThanSixBytes, wrongFixedBits, notInList, reservedLength}
-use Rattle.evex.specs.Decode.{zeroingWithoutMask, extraSource, scalarBroadcast, reservedForms, bytesMissing, headConditions}
-use Rattle.evex.specs.Decode.{rowConditions, refusals, decoded}
+use Rattle.evex.specs.Decode.{zeroingWithoutMask, extraSource, scalarBroadcast, zeroingMask, noSuchMask, reservedForms}
+use Rattle.evex.specs.Decode.{bytesMissing, headConditions, rowConditions, refusals, decoded}
 use Rattle.evex.specs.Sizes.{RowSizes, DecodedSizes, SizesReached}
-use Rattle.evex.proofs.Bounds.{size-least, size-most}
+use Rattle.evex.proofs.Lengths.{size-least, size-most}
 use Rattle.evex.proofs.After.{whole, whole-size}
 
 pub row-sizes : RowSizes
@@ -23,5 +23,6 @@ decoded-sizes code i e =
 pub sizes-reached : SizesReached
 unfolding rows takesSib headOf listed registerForm registerB hasSib baseBits noBase displacementAt displacementSize size
     instruction noBytes wrongFirstByte fewerThanSixBytes wrongFixedBits notInList reservedLength zeroingWithoutMask
-    extraSource scalarBroadcast reservedForms bytesMissing headConditions rowConditions refusals decoded
+    extraSource scalarBroadcast zeroingMask noSuchMask reservedForms bytesMissing headConditions rowConditions refusals
+    decoded
 sizes-reached = ((_, refl, refl), (_, refl, refl))

@@ -7,7 +7,8 @@ use lib.ListN.{length}
 use Rattle.lists.specs.Lists.{firstOf}
 use Rattle.evex.specs.Bits.{isSet, byte}
 use Rattle.evex.specs.List.{shape}
-use Rattle.evex.specs.Fields.{headOf, listed, lengthBits, b, registerForm, registerB, z, aaa, firstSource, size, instruction}
+use Rattle.evex.specs.Fields.{headOf, listed, lengthBits, b, registerForm, registerB, z, aaa, destination, firstSource, size}
+use Rattle.evex.specs.Fields.{instruction}
 use Rattle.evex.specs.declared.head.Head.{Head}
 use Rattle.evex.specs.declared.list.Row.{Row}
 use Rattle.evex.specs.declared.list.Listed.{Listed}
@@ -46,7 +47,7 @@ unfoldable pub notInList : Listed → Bool
 notInList (Found row) = false
 notInList Nothing = true
 
--- R4.10: length bits 3, unless they hold a mode (R3.8). Every row reserves them.
+-- R4.10: length bits 3, but for b in register form, where they are no length (R3.8). Every row reserves them.
 unfoldable pub reservedLength : Head → Bool
 reservedLength h = eqb (lengthBits h) 3 && not (registerB h)
 
@@ -62,6 +63,14 @@ extraSource h row = not (shape row .first) && not (eqb (firstSource h) 0)
 unfoldable pub scalarBroadcast : Head → Row → Bool
 scalarBroadcast h row = shape row .scalar && (b h && not (registerForm h))
 
+-- R4.10: zeroing, where the row writes a mask.
+unfoldable pub zeroingMask : Head → Row → Bool
+zeroingMask h row = shape row .mask && z h
+
+-- R4.10: a mask that there is not, where the row writes one.
+unfoldable pub noSuchMask : Head → Row → Bool
+noSuchMask h row = shape row .mask && ltb 7 (destination h)
+
 -- R4.10: the reserved forms, a line for each.
 unfoldable pub reservedForms : Head → Row → List Bool
 reservedForms h row =
@@ -69,9 +78,12 @@ reservedForms h row =
     ∷ zeroingWithoutMask h
     ∷ extraSource h row
     ∷ scalarBroadcast h row
+    ∷ zeroingMask h row
+    ∷ noSuchMask h row
     ∷ []
 
--- R4.11: there are fewer bytes than the instruction has. Where the SIB byte is missing the length counts it all the same.
+-- R4.11: there are fewer bytes than the instruction has, the SIB byte, the displacement and the immediate among them. Where the SIB byte is
+-- missing the length counts it all the same.
 unfoldable pub bytesMissing : Head → Row → List ℕ → Bool
 bytesMissing h row code = ltb (length code) (size h row)
 

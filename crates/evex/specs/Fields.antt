@@ -12,7 +12,9 @@ use Rattle.evex.specs.declared.head.Head.{Head}
 use Rattle.evex.specs.declared.list.Row.{Row}
 use Rattle.evex.specs.declared.list.Listed.{Listed}
 use Rattle.evex.specs.declared.Rounding.{Rounding}
-use Rattle.evex.specs.declared.Rounding.the-variants.{Control, Embedded}
+use Rattle.evex.specs.declared.Rounding.the-variants.{Control, Embedded, Suppressed}
+use Rattle.evex.specs.declared.Destination.{Destination}
+use Rattle.evex.specs.declared.Destination.the-variants.{Vector, Mask}
 use Rattle.evex.specs.declared.Source.{Source}
 use Rattle.evex.specs.declared.Source.the-variants as source
 use Rattle.evex.specs.declared.Base.{Base}
@@ -102,7 +104,7 @@ module _ (h : Head) where
   unfoldable pub listed : Listed
   listed = find rows prefixBits mapBits W (h .opcode)
 
-  -- R3.6: the numbers of vector registers.
+  -- R3.6: the numbers of registers.
   abbrev pub destination : ℕ
   destination = R′ * 16 + R * 8 + reg
 
@@ -166,6 +168,10 @@ module _ (h : Head) where
 -- ---- with its row
 
 module _ (h : Head) (row : Row) where
+  -- R3.6: the destination, a mask or a vector register.
+  unfoldable pub destinationOf : Destination
+  destinationOf = cond (shape row .mask) (Mask (destination h)) (Vector (destination h))
+
   -- R2.2, R3.6: the first source, where there is one.
   unfoldable pub first : Source
   first = cond (shape row .first) (source.Register (firstSource h)) source.None
@@ -174,9 +180,9 @@ module _ (h : Head) (row : Row) where
   unfoldable pub elements : ℕ
   elements = cond (shape row .scalar) 1 (vectorLanes h)
 
-  -- R3.8: whose mode counts.
+  -- R3.8: whose mode and masks count; b in register form suppresses exceptions, or rounds by the length bits besides.
   unfoldable pub rounding : Rounding
-  rounding = cond (registerB h) (Embedded (modeOfBits (lengthBits h))) Control
+  rounding = cond (registerB h) (cond (shape row .suppresses) Suppressed (Embedded (modeOfBits (lengthBits h)))) Control
 
   -- R3.13: the unit of a displacement of one byte: an element, which has 2 bytes, or all of them.
   unfoldable pub N : ℕ
@@ -188,9 +194,16 @@ module _ (h : Head) (row : Row) where
       cond (eqb (displacementSize h) 1) (signed 8 (byte code (displacementAt h)) *ℤ pos N)
       (cond (eqb (displacementSize h) 4) (signed 32 (fourBytes code (displacementAt h))) (pos 0))
 
+  -- R3.15: where the immediate stands, behind all else, and the byte there; 0 where there is none.
+  abbrev pub immediateAt : ℕ
+  immediateAt = displacementAt h + displacementSize h
+
+  unfoldable pub immediateOf : List ℕ → ℕ
+  immediateOf code = cond (shape row .immediate) (byte code immediateAt) 0
+
   -- R3.14: the instruction's length in bytes.
   unfoldable pub size : ℕ
-  size = displacementAt h + displacementSize h
+  size = immediateAt + cond (shape row .immediate) 1 0
 
   -- R3.1: all fields.
   unfoldable pub instruction : List ℕ → Instruction
@@ -202,8 +215,9 @@ module _ (h : Head) (row : Row) where
         rounding = rounding;
         zeroing = z h;
         mask = aaa h;
-        destination = destination h;
+        destination = destinationOf;
         first = first;
         second = second h (displacementOf code);
+        immediate = immediateOf code;
         size = size;
       }

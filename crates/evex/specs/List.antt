@@ -5,6 +5,7 @@ use mathlib.Core.List.{List, [], _∷_}
 use lib.Dec.{eqb}
 use Rattle.evex.specs.declared.Operation.{Operation}
 use Rattle.evex.specs.declared.Operation.the-variants.{Add, Multiply, Subtract, Divide, SquareRoot, Fused132, Fused213, Fused231}
+use Rattle.evex.specs.declared.Operation.the-variants.{Minimum, Maximum, Compare}
 use Rattle.evex.specs.declared.Shape.{Shape}
 use Rattle.evex.specs.declared.list.Row.{Row}
 use Rattle.evex.specs.declared.list.Listed.{Listed}
@@ -14,23 +15,31 @@ use Rattle.evex.specs.declared.list.Listed.the-variants.{Found, Nothing}
 
 -- two sources
 abbrev pub packed : Shape
-packed = record { scalar = false; first = true; accumulates = false }
+packed = record { scalar = false; first = true; accumulates = false; suppresses = false; mask = false; immediate = false }
 
 -- the second source alone
 abbrev pub root : Shape
-root = record { scalar = false; first = false; accumulates = false }
+root = record { scalar = false; first = false; accumulates = false; suppresses = false; mask = false; immediate = false }
 
 -- two sources and the destination
 abbrev pub fused : Shape
-fused = record { scalar = false; first = true; accumulates = true }
+fused = record { scalar = false; first = true; accumulates = true; suppresses = false; mask = false; immediate = false }
 
 -- one element, and two sources, of the root too
 abbrev pub scalar : Shape
-scalar = record { scalar = true; first = true; accumulates = false }
+scalar = record { scalar = true; first = true; accumulates = false; suppresses = false; mask = false; immediate = false }
 
 -- one element, and two sources and the destination
 abbrev pub fusedScalar : Shape
-fusedScalar = record { scalar = true; first = true; accumulates = true }
+fusedScalar = record { scalar = true; first = true; accumulates = true; suppresses = false; mask = false; immediate = false }
+
+-- two sources, of which nothing is rounded
+abbrev pub selecting : Shape
+selecting = record { scalar = false; first = true; accumulates = false; suppresses = true; mask = false; immediate = false }
+
+-- the same, to a mask and by an immediate
+abbrev pub comparing : Shape
+comparing = record { scalar = false; first = true; accumulates = false; suppresses = true; mask = true; immediate = true }
 
 -- ---- R2.1: the table
 
@@ -63,6 +72,9 @@ rows =
     ∷ (p66, 6, 0, 0x99, Fused132, fusedScalar)
     ∷ (p66, 6, 0, 0xA9, Fused213, fusedScalar)
     ∷ (p66, 6, 0, 0xB9, Fused231, fusedScalar)
+    ∷ (none, 5, 0, 0x5D, Minimum, selecting)
+    ∷ (none, 5, 0, 0x5F, Maximum, selecting)
+    ∷ (none, 3, 0, 0xC2, Compare, comparing)
     ∷ []
 
 -- ---- the columns by name
@@ -75,7 +87,7 @@ isFor r prefix map w opcode = eqb (r .0) prefix && eqb (r .1) map && eqb (r .2) 
 abbrev pub operation : Row → Operation
 operation r = r .4
 
--- R2.2, R3.7: its operands, and whether it has one element.
+-- R2.2, R3.6 to R3.8, R3.15: its operands and destination, whether it has one element, what b does, whether it has an immediate.
 abbrev pub shape : Row → Shape
 shape r = r .5
 

@@ -14,9 +14,9 @@ use Rattle.evex.specs.declared.Decoded.the-variants.{Fields}
 abbrev pub shortest : ℕ
 shortest = 4 + 1 + 1
 
--- R3.14: 11, with a SIB byte and a displacement of four bytes.
+-- R3.14: 12, with a SIB byte, a displacement of four bytes and an immediate.
 abbrev pub longest : ℕ
-longest = shortest + 1 + 4
+longest = shortest + 1 + 4 + 1
 
 -- R3.14: no instruction is shorter or longer, whatever the head and the row: those of R2.1, and any other with the same columns.
 abbrev pub RowSizes : Type 0
@@ -34,9 +34,9 @@ DecodedSizes = (code : List ℕ) (i : Instruction) → decoded code ≡ Fields i
 abbrev pub DecodedAs : List ℕ → ℕ → Type 0
 DecodedAs code n = (i : Instruction) × (decoded code ≡ Fields i) × (i .size ≡ n)
 
--- R3.14: neither bound can be closer. VADDPH of registers 1 and 2; VADDPH of register 1 and memory, with a SIB byte and four bytes of
+-- R3.14: neither bound can be closer. VADDPH of registers 1 and 2; VCMPPH of register 1 and memory, with a SIB byte and four bytes of
 -- displacement.
 abbrev pub SizesReached : Type 0
 SizesReached =
     DecodedAs (0x62 ∷ 0xF5 ∷ 0x74 ∷ 0x48 ∷ 0x58 ∷ 0xC2 ∷ []) shortest
-    × DecodedAs (0x62 ∷ 0xF5 ∷ 0x74 ∷ 0x49 ∷ 0x58 ∷ 0x84 ∷ 0xC8 ∷ 0x00 ∷ 0x01 ∷ 0x00 ∷ 0x00 ∷ []) longest
+    × DecodedAs (0x62 ∷ 0xF3 ∷ 0x74 ∷ 0x49 ∷ 0xC2 ∷ 0x84 ∷ 0xC8 ∷ 0x00 ∷ 0x01 ∷ 0x00 ∷ 0x00 ∷ 0x12 ∷ []) longest

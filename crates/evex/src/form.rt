@@ -1,9 +1,13 @@
 // What a head says together with its row: the fields, and the reserved forms.
 ghost use mathlib.Core.Path.{_≡_};
-ghost use Prim.Native.Nat.{_≤_};
+ghost use mathlib.Core.Bool.{cond};
+ghost use Prim.Native.Nat.{_+_, _≤_};
 ghost use Rattle.lists.specs.Lists.{some};
-ghost use Rattle.evex.specs.Fields.{displacementAt, displacementSize, first, elements, rounding, N, displacementOf, instruction};
-ghost use Rattle.evex.specs.Decode.{extraSource, scalarBroadcast, reservedForms};
+ghost use Rattle.evex.specs.List.{shape};
+ghost use Rattle.evex.specs.Fields.{displacementAt, displacementSize, destinationOf, first, elements, rounding, N, displacementOf};
+ghost use Rattle.evex.specs.Fields.{immediateAt, immediateOf, size, instruction};
+ghost use Rattle.evex.specs.Decode.{extraSource, scalarBroadcast, zeroingMask, noSuchMask, reservedForms};
+use super::Destination;
 use super::Instruction;
 use super::Rounding;
 use super::Source;
@@ -15,6 +19,17 @@ use super::bits::signed32;
 use super::head::Head;
 use super::list::Row;
 use half::Mode;
+
+// A mask, or a vector register (R3.6).
+fn destination(head: Head, row: Row) -> Destination
+    ensures { λ r. ⌜ r ≡ destinationOf head row ⌝ }
+{
+    let shape = row.shape();
+    if shape.mask {
+        return Destination::Mask(head.destination());
+    }
+    Destination::Vector(head.destination())
+}
 
 // The first source, where there is one (R2.2).
 fn first(head: Head, row: Row) -> Source
@@ -38,15 +53,19 @@ fn elements(head: Head, row: Row) -> u8
     head.vector_lanes()
 }
 
-// Whose mode counts (R3.8).
+// Whose mode and masks count (R3.8).
 fn rounding(head: Head, row: Row) -> Rounding
     ensures { λ r. ⌜ r ≡ rounding head row ⌝ }
 {
-    if head.has_register_b() {
-        let mode = Mode::of_bits(head.length_bits() as u32);
-        return Rounding::Embedded(mode);
+    if !head.has_register_b() {
+        return Rounding::Control;
     }
-    Rounding::Control
+    let shape = row.shape();
+    if shape.suppresses {
+        return Rounding::Suppressed;
+    }
+    let mode = Mode::of_bits(head.length_bits() as u32);
+    Rounding::Embedded(mode)
 }
 
 // R3.13: N.
@@ -73,13 +92,47 @@ fn displacement(head: Head, row: Row, code: &[u8], at: usize, bytes: usize) -> i
     0
 }
 
-pub(crate) fn instruction(head: Head, row: Row, code: &[u8], at: usize, bytes: usize) -> Instruction
-    requires { ⌜ (at ≡ displacementAt head) × (bytes ≡ displacementSize head) × (at ≤ 7) × (bytes ≤ 4) ⌝ }
+// The immediate, 0 where there is none (R3.15).
+fn immediate(head: Head, row: Row, code: &[u8], at: usize) -> u8
+    requires { ⌜ at ≡ immediateAt head row ⌝ }
+    ensures { λ r. ⌜ r ≡ immediateOf head row (now (code .entry)) ⌝ }
+{
+    let shape = row.shape();
+    if shape.immediate {
+        return byte_at(code, at);
+    }
+    0
+}
+
+// The length in bytes (R3.14), by where a displacement stands and how many bytes it has.
+pub(crate) fn size(row: Row, at: usize, bytes: usize) -> usize
+    requires { ⌜ (at ≤ 7) × (bytes ≤ 4) ⌝ }
+    ensures { λ r. ⌜ r ≡ at + bytes + cond (shape row .immediate) 1 0 ⌝ }
+{
+    let shape = row.shape();
+    if shape.immediate {
+        return at + bytes + 1;
+    }
+    at + bytes
+}
+
+pub(crate) fn instruction(
+    head: Head,
+    row: Row,
+    code: &[u8],
+    at: usize,
+    bytes: usize,
+    length: usize,
+) -> Instruction
+    requires { ⌜
+        (at ≡ displacementAt head) × (bytes ≡ displacementSize head) × (at ≤ 7) × (bytes ≤ 4) × (length ≡ size head row)
+        ⌝ }
     ensures { λ r. ⌜ r ≡ instruction head row (now (code .entry)) ⌝ }
 {
     let operation = row.operation();
     let shape = row.shape();
     let rounding = rounding(head, row);
+    let destination = destination(head, row);
     let first = first(head, row);
     let second = head.second(displacement(head, row, code, at, bytes));
     Instruction {
@@ -89,11 +142,11 @@ pub(crate) fn instruction(head: Head, row: Row, code: &[u8], at: usize, bytes: u
         rounding,
         zeroing: head.has_z(),
         mask: head.mask(),
-        destination: head.destination(),
+        destination,
         first,
         second,
-        // R3.14: the instruction's length in bytes.
-        size: at + bytes,
+        immediate: immediate(head, row, code, at + bytes),
+        size: length,
     }
 }
 
@@ -113,11 +166,29 @@ fn has_scalar_broadcast(head: Head, row: Row) -> bool
     shape.scalar & (head.has_b() & !head.is_register_form())
 }
 
+// R4.10: z, where a mask is written.
+fn zeroes_mask(head: Head, row: Row) -> bool
+    ensures { λ r. ⌜ r ≡ zeroingMask head row ⌝ }
+{
+    let shape = row.shape();
+    shape.mask & head.has_z()
+}
+
+// R4.10: a number above 7, where a mask is written.
+fn has_no_such_mask(head: Head, row: Row) -> bool
+    ensures { λ r. ⌜ r ≡ noSuchMask head row ⌝ }
+{
+    let shape = row.shape();
+    shape.mask & (7 < head.destination())
+}
+
 // R4.10: one of the reserved forms.
 pub(crate) fn is_reserved(head: Head, row: Row) -> bool
     ensures { λ r. ⌜ r ≡ some (λ reserved. reserved) (reservedForms head row) ⌝ }
 {
     head.has_reserved_length()
         | (head.zeroes_without_mask()
-            | (has_extra_source(head, row) | has_scalar_broadcast(head, row)))
+            | (has_extra_source(head, row)
+                | (has_scalar_broadcast(head, row)
+                    | (zeroes_mask(head, row) | has_no_such_mask(head, row)))))
 }

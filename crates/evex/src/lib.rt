@@ -1,9 +1,14 @@
-// The bytes of an instruction: its fields (R3.1 to R3.14), or why they are refused (R4.5 to R4.11).
+// The bytes of an instruction: its fields (R3.1 to R3.15), or why they are refused (R4.5 to R4.11).
 ghost use mathlib.Core.Path.{_≡_};
-ghost use Rattle.evex.specs.Decode.{decoded, numberOf};
+ghost use mathlib.Core.List.{map};
+ghost use Rattle.lists.specs.Lists.{firstOf};
+ghost use Rattle.evex.specs.Fields.{instruction};
+ghost use Rattle.evex.specs.Decode.{rowConditions, decoded, numberOf};
+ghost use Rattle.evex.specs.declared.Decoded.the-variants.{Fields, Refused};
 use half::Mode;
 use head::Head;
 use list::Listed;
+use list::Row;
 
 mod bits;
 mod form;
@@ -19,20 +24,35 @@ pub enum Operation {
     Fused132,
     Fused213,
     Fused231,
+    Minimum,
+    Maximum,
+    Compare,
 }
 
-// What a row says beyond what finds it and its operation (R2.2, R3.7): whether there is one element, whether there is a first source, and
-// whether the destination is an operand too.
+// What a row says beyond what finds it and its operation (R2.2, R3.6 to R3.8): whether there is one element, whether there is a first
+// source, whether the destination is an operand too; whether b in register form only suppresses exceptions, whether the destination is a
+// mask, and whether there is an immediate.
 pub struct Shape {
     pub scalar: bool,
     pub first: bool,
     pub accumulates: bool,
+    pub suppresses: bool,
+    pub mask: bool,
+    pub immediate: bool,
 }
 
-// Whose rounding mode counts: the control word's, or the one that the instruction gives.
+// Whose rounding mode and masks of exceptions count: the control word's, the mode that the instruction gives, with all exceptions masked, or
+// the control word's mode with all of them masked.
 pub enum Rounding {
     Control,
     Embedded(Mode),
+    Suppressed,
+}
+
+// What an instruction writes: a vector register, or a mask.
+pub enum Destination {
+    Vector(usize),
+    Mask(usize),
 }
 
 // The first source: a vector register, or none.
@@ -66,7 +86,8 @@ pub enum Operand {
     Memory { address: Address, broadcast: bool },
 }
 
-// The fields of an instruction. Elements are 1, 8, 16 or 32, one to a lane from lane 0 on (R3.7); the size is the length in bytes (R3.14).
+// The fields of an instruction. Elements are 1, 8, 16 or 32, one to a lane from lane 0 on (R3.7); `mask` is aaa (R5.1); the immediate is 0
+// where there is none; the size is the length in bytes (R3.14).
 pub struct Instruction {
     pub operation: Operation,
     pub shape: Shape,
@@ -74,9 +95,10 @@ pub struct Instruction {
     pub rounding: Rounding,
     pub zeroing: bool,
     pub mask: usize,
-    pub destination: usize,
+    pub destination: Destination,
     pub first: Source,
     pub second: Operand,
+    pub immediate: u8,
     pub size: usize,
 }
 
@@ -105,6 +127,26 @@ impl Refusal {
     }
 }
 
+// From R4.10 on. By itself, since the compiler takes what stands behind many tests for rare, and would not inline the fields.
+fn decode_row(head: Head, row: Row, code: &[u8]) -> Decoded
+    ensures { λ r. ⌜
+        r
+        ≡ firstOf (map (λ c. (c .0, Refused (c .1))) (rowConditions head (now (code .entry)) row))
+        (Fields (instruction head row (now (code .entry))))
+        ⌝ }
+{
+    if form::is_reserved(head, row) {
+        return Decoded::Refused(Refusal::Reserved);
+    }
+    let at = head.displacement_at();
+    let bytes = head.displacement_size();
+    let length = form::size(row, at, bytes);
+    if code.len() < length {
+        return Decoded::Refused(Refusal::Incomplete);
+    }
+    Decoded::Fields(form::instruction(head, row, code, at, bytes, length))
+}
+
 // The instruction that the bytes begin with, in the order of R4.2. What follows it has no effect (R4.18).
 pub fn decode(code: &[u8]) -> Decoded
     ensures { λ r. ⌜ r ≡ decoded (now (code .entry)) ⌝ }
@@ -125,13 +167,5 @@ pub fn decode(code: &[u8]) -> Decoded
     let Listed::Found(row) = head.listed() else {
         return Decoded::Refused(Refusal::Unlisted);
     };
-    if form::is_reserved(head, row) {
-        return Decoded::Refused(Refusal::Reserved);
-    }
-    let at = head.displacement_at();
-    let bytes = head.displacement_size();
-    if code.len() < at + bytes {
-        return Decoded::Refused(Refusal::Incomplete);
-    }
-    Decoded::Fields(form::instruction(head, row, code, at, bytes))
+    decode_row(head, row, code)
 }

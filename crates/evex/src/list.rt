@@ -23,18 +23,27 @@ const PACKED: Shape = Shape {
     scalar: false,
     first: true,
     accumulates: false,
+    suppresses: false,
+    mask: false,
+    immediate: false,
 };
 
 const ROOT: Shape = Shape {
     scalar: false,
     first: false,
     accumulates: false,
+    suppresses: false,
+    mask: false,
+    immediate: false,
 };
 
 const FUSED: Shape = Shape {
     scalar: false,
     first: true,
     accumulates: true,
+    suppresses: false,
+    mask: false,
+    immediate: false,
 };
 
 // R2.2, R3.7: one element.
@@ -42,15 +51,40 @@ const SCALAR: Shape = Shape {
     scalar: true,
     first: true,
     accumulates: false,
+    suppresses: false,
+    mask: false,
+    immediate: false,
 };
 
 const FUSED_SCALAR: Shape = Shape {
     scalar: true,
     first: true,
     accumulates: true,
+    suppresses: false,
+    mask: false,
+    immediate: false,
 };
 
-const COUNT: usize = 16;
+// R3.8: nothing is rounded. R3.6, R3.15: and a mask is written, by an immediate.
+const SELECTING: Shape = Shape {
+    scalar: false,
+    first: true,
+    accumulates: false,
+    suppresses: true,
+    mask: false,
+    immediate: false,
+};
+
+const COMPARING: Shape = Shape {
+    scalar: false,
+    first: true,
+    accumulates: false,
+    suppresses: true,
+    mask: true,
+    immediate: true,
+};
+
+const COUNT: usize = 19;
 
 impl Row {
     // The columns that are read once the row is found.
@@ -90,7 +124,10 @@ fn row_at(i: usize) -> Row
         12 => Row(2, 5, 0, 0x51, Operation::SquareRoot, SCALAR),
         13 => Row(1, 6, 0, 0x99, Operation::Fused132, FUSED_SCALAR),
         14 => Row(1, 6, 0, 0xa9, Operation::Fused213, FUSED_SCALAR),
-        _ => Row(1, 6, 0, 0xb9, Operation::Fused231, FUSED_SCALAR),
+        15 => Row(1, 6, 0, 0xb9, Operation::Fused231, FUSED_SCALAR),
+        16 => Row(0, 5, 0, 0x5d, Operation::Minimum, SELECTING),
+        17 => Row(0, 5, 0, 0x5f, Operation::Maximum, SELECTING),
+        _ => Row(0, 3, 0, 0xc2, Operation::Compare, COMPARING),
     }
 }
 
@@ -99,7 +136,7 @@ fn start_of(opcode: u8) -> usize
     ensures { λ r. ⌜
         (some (λ row. eqb (row .3) opcode) (take r rows) ≡ false)
         × (some (λ row. eqb (row .0) 2 && eqb (row .3) opcode) (take (r + 8) rows) ≡ false)
-        × (r ≤ 15)
+        × (r ≤ 18)
         ⌝ }
 {
     match opcode {
@@ -113,6 +150,9 @@ fn start_of(opcode: u8) -> usize
         0x99 => 13,
         0xa9 => 14,
         0xb9 => 15,
+        0x5d => 16,
+        0x5f => 17,
+        0xc2 => 18,
         _ => 0,
     }
 }

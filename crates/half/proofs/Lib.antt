@@ -15,3 +15,7 @@ pub mod Steps
 pub mod Special
 pub mod Sums
 pub mod Quotients
+pub mod Encoding
+pub mod Classes
+pub mod Ranks
+pub mod Predicates

@@ -25,7 +25,7 @@ two-nan a b e f = rw (← again (isNan b)) (sym e ∙ f)
 pub one-nan : (a : ℕ) {r t : Bool} → r ≡ some isNan (a ∷ a ∷ a ∷ []) → r ≡ t → some isNan (a ∷ []) ≡ t
 one-nan a e f = sym (again (isNan a)) ∙ two-nan a a e f
 
-two-denormals : (a b : ℕ) {de : ℕ} → de ≡ flag DE (some isSubnormal (a ∷ b ∷ b ∷ [])) → flag DE (some isSubnormal (a ∷ b ∷ [])) ≡ de
+pub two-denormals : (a b : ℕ) {de : ℕ} → de ≡ flag DE (some isSubnormal (a ∷ b ∷ b ∷ [])) → flag DE (some isSubnormal (a ∷ b ∷ [])) ≡ de
 two-denormals a b e = rw (← again (isSubnormal b)) (sym e)
 
 -- the other sign makes no NaN

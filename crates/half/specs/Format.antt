@@ -1,9 +1,10 @@
 -- docs/RULES.md, R6.1 to R6.3: a half and its fields, what kind of half it is, the number that it stands for. A half is a number below
 -- 2 ^ 16.
 use Prim.Native.Nat.{ℕ, _+_, _-_, _*_, _/_, _%_, _^_}
-use mathlib.Core.Bool.{Bool, not, _&&_, cond}
+use mathlib.Core.Bool.{Bool, true, false, not, _&&_, cond}
 use lib.Dec.{ltb, eqb}
 use lib.Bits.{bitOr, bitXor}
+use lib.IntN.{ℤ, pos, negℤ}
 
 -- ---- R6.1: the sign is bit 15, the exponent field bits 14 to 10, the fraction bits 9 to 0
 
@@ -42,10 +43,19 @@ isSubnormal h = eqb (exponentField h) 0 && not (eqb (fractionField h) 0)
 abbrev pub significand : ℕ → ℕ
 significand h = cond (eqb (exponentField h) 0) (fractionField h) (1024 + fractionField h)
 
--- How many units of 2 ^ -24 it is, the sign left out. It is asked of finite halves alone. Subtraction of natural numbers stops at 0, here
--- and in Round.antt, so that the exponent field 0 counts as 1 does.
+-- How many units of 2 ^ -24 it is, the sign left out. It is asked of finite halves, and of infinities where halves are compared (R6.25).
+-- Subtraction of natural numbers stops at 0, here and in Round.antt, so that the exponent field 0 counts as 1 does.
 unfoldable pub units : ℕ → ℕ
 units h = significand h * 2 ^ (exponentField h - 1)
+
+-- n with this sign, true for minus; the two zeros are one
+abbrev pub signed : Bool → ℕ → ℤ
+signed false n = pos n
+signed true n = negℤ (pos n)
+
+-- R6.25: the number itself, in these units
+abbrev pub value : ℕ → ℤ
+value h = signed (negative h) (units h)
 
 -- ---- halves made
 

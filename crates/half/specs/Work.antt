@@ -2,12 +2,18 @@
 -- (proofs/Bridge.antt).
 -- The place of a number v ≥ 0 among the whole numbers: 2 c where v is c, and 2 c + 1 where v lies between c and c + 1.
 use Prim.Native.Nat.{ℕ, _+_, _-_, _*_, _/_, _%_, _^_, _<_, _≤_, min}
-use mathlib.Core.Bool.{Bool, true, false, _&&_, cond, Bool·beq}
+use mathlib.Core.Bool.{Bool, true, false, _&&_, _||_, cond, Bool·beq}
+use mathlib.Core.List.{[], _∷_}
 use mathlib.Core.Path.{_≡_}
 use lib.Dec.{ltb}
 use lib.IntN.{ℤ, subℕ}
-use Rattle.half.specs.Format.{exponentField, units}
+use Rattle.lists.specs.Lists.{some}
+use Rattle.half.specs.Format.{negative, exponentField, isSignalling, units}
 use Rattle.half.specs.Exact.{rootFrom}
+use Rattle.half.specs.Round.{result}
+use Rattle.half.specs.Comparison.{relation, comparisonFlags, holds}
+use Rattle.half.specs.declared.Outcome.{Outcome}
+use Rattle.half.specs.declared.comparison.Predicate.{Predicate}
 use Rattle.half.specs.declared.product.Product.{Product}
 use Rattle.half.specs.declared.normal.Sum.{Sum}
 
@@ -49,3 +55,13 @@ pub record Summed (sx : Bool) (x : ℕ) (sy : Bool) (y : ℕ) (s : Sum) : Type 0
   pub room : s .exponent < 64
   pub magnitude : s .digits * 2 ^ s .exponent ≡ sumMagnitude (Bool·beq sx sy) x y
   pub sign : s .neg ≡ sumSign sx x sy y
+
+-- the exponent and fraction fields, counted up from 2 ^ 15, or down with a minus
+abbrev pub rankOf : ℕ → ℕ
+rankOf h = cond (negative h) (2 ^ 15 - h % 2 ^ 15) (2 ^ 15 + h % 2 ^ 15)
+
+-- R6.28's 1 or 0 where it is compared, and else a where the predicate says yes, and b where it says no
+abbrev pub picked : Predicate → Bool → ℕ → ℕ → Outcome
+picked p compares a b =
+    let yes : Bool = holds p (relation a b) in
+    result (cond compares (cond yes 1 0) (cond yes a b)) (comparisonFlags (some isSignalling (a ∷ b ∷ []) || p .signals) a b)

@@ -38,7 +38,7 @@ pub fn infinite(h: u16) -> bool
 pub fn nan(h: u16) -> bool
     ensures { λ r. ⌜ r ≡ isNan h ⌝ }
 {
-    (exponent_of(h) == 31) & (fraction_of(h) != 0)
+    0x7C00 < h % 0x8000
 }
 
 pub fn signalling(h: u16) -> bool
@@ -56,7 +56,7 @@ pub fn zero(h: u16) -> bool
 pub fn subnormal(h: u16) -> bool
     ensures { λ r. ⌜ r ≡ isSubnormal h ⌝ }
 {
-    (exponent_of(h) == 0) & (fraction_of(h) != 0)
+    (h % 0x8000 < 0x400) & (h % 0x8000 != 0)
 }
 
 pub fn significand_of(h: u16) -> u64

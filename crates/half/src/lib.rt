@@ -1,7 +1,9 @@
-// IEEE 754 binary16 arithmetic: six operations, each rounded once, with its six flags (docs/RULES.md, R6.1 to R6.24).
+// IEEE 754 binary16 arithmetic: six operations, each rounded once, with its six flags (docs/RULES.md, R6.1 to R6.24); minimum, maximum
+// and comparison (R6.25 to R6.28).
 ghost use mathlib.Core.Path.{_≡_};
 ghost use Rattle.half.specs.Modes.{modeOfBits};
 
+pub mod comparison;
 mod fields;
 pub mod fused;
 mod normal;

@@ -1,4 +1,5 @@
--- Proved gathers the laws of specs/Laws.antt, and Operated those of specs/Operations.antt; the others are what they cite.
+-- Proved gathers the laws of specs/Laws.antt, Operated those of specs/Operations.antt, Compared those of specs/Comparison.antt; the
+-- others are what they cite.
 pub mod Sides
 pub mod Grid
 pub mod Fields
@@ -11,3 +12,4 @@ pub mod Directed
 pub mod Proved
 pub mod Signed
 pub mod Operated
+pub mod Compared

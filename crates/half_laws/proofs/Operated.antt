@@ -5,7 +5,7 @@ use mathlib.Core.List.{List, [], _∷_}
 use mathlib.Core.Path.{_≡_, refl, sym, ap, _∙_}
 use native.Mathlib.Omega.{arith}
 use lib.IntN.{_+ℤ_}
-use Rattle.half.specs.Format.{isSubnormal, negative, negated, units}
+use Rattle.half.specs.Format.{isSubnormal, negative, negated, units, signed}
 use Rattle.half.specs.Exact.{ratio}
 use Rattle.half.specs.Round.{roundedHalf}
 use Rattle.half.specs.Operations.{withDenormals, unlike, exactSum}
@@ -14,7 +14,7 @@ use Rattle.half.specs.declared.Outcome.{Outcome}
 use Rattle.half.proofs.Units.{finite-no-nan, units-pos}
 use Rattle.half.proofs.Cases.{finite-add, finite-multiply, finite-divide, finite-root, finite-multiply-add, again}
 use Rattle.half.proofs.Special.{subtract-adds}
-use Rattle.half_laws.specs.Operations.{signed, RoundsRatio, zeroSign}
+use Rattle.half_laws.specs.Operations.{RoundsRatio, zeroSign}
 use Rattle.half_laws.specs.Operations.{AddLaw, SubtractLaw, MultiplyLaw, QuotientLaw, DivideLaw, RootLaw, MultiplyAddLaw}
 use Rattle.half_laws.proofs.Signed.{sum-number, own-sign, scaled, product}
 use Rattle.half_laws.proofs.Signed.{negative-negated, finite-negated, subnormal-negated, value-negated}

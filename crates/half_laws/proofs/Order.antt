@@ -14,11 +14,12 @@ use Rattle.half.specs.declared.Mode.{Mode}
 use Rattle.half.specs.declared.Mode.the-variants.{TowardZero}
 use Rattle.half.proofs.Cuts.{left, right, weight, against-is, against-scale, left-scale, right-scale, right-mono, roundTo-same, le-scale}
 use Rattle.half.proofs.Cuts.{ge-scale, scale-le, scale-ge}
+use Rattle.half.proofs.Encoding.{encode-mono}
 use Rattle.half_laws.specs.Values.{Leq}
 use Rattle.half_laws.specs.Laws.{halfOf}
 use Rattle.half_laws.proofs.Sides.{Le, Ge, right-cmp, right-back, most-le, least-ge}
 use Rattle.half_laws.proofs.Grid.{delivered-on-grid, toward-zero, away-from-zero, none-nearer}
-use Rattle.half_laws.proofs.Fields.{encode-mono, signed-le}
+use Rattle.half_laws.proofs.Fields.{signed-le}
 use Rattle.half_laws.proofs.Delivered.{fields-fit, overflows-is, below-top, half-is, over-half, overflow-ge}
 
 -- ---- rounding turns on the number alone

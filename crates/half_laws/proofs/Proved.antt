@@ -20,6 +20,7 @@ use Rattle.half.specs.declared.Outcome.{Outcome}
 use Rattle.half.proofs.Cuts.{whole-spec}
 use Rattle.half.proofs.Bridge.{right-zero}
 use Rattle.half.proofs.Units.{finite-lt}
+use Rattle.half.proofs.Encoding.{encode-units}
 use Rattle.half_laws.specs.Values.{AtLeast, Equals, HalfNotAbove, HalfNotBelow}
 use Rattle.half_laws.specs.Laws.{halfOf, afterOverflow, NearestTo}
 use Rattle.half_laws.specs.Laws.{WholeUnitsLaw, DeliveredHalfLaw, NearestLaw, DownLaw, UpLaw, TowardZeroLaw, InexactLaw}
@@ -28,7 +29,7 @@ use Rattle.half_laws.specs.Laws.{FinerLaw, ElevenBitsLaw, ExactLaw, Orde
 use Rattle.half_laws.proofs.Sides.{least-ge, ge-least, le-most, lt-below, equals-eq, above-gt}
 use Rattle.half_laws.proofs.Grid as grid
 use Rattle.half_laws.proofs.Grid.{half-on-grid, none-nearer, tie-even}
-use Rattle.half_laws.proofs.Fields.{encode-units, signed-even, signed-back}
+use Rattle.half_laws.proofs.Fields.{signed-even, signed-back}
 use Rattle.half_laws.proofs.Delivered as given
 use Rattle.half_laws.proofs.Order as ordered
 use Rattle.half_laws.proofs.Exactness as exactness
@@ -85,7 +86,8 @@ down unmaskedUE neg x hd fits =
     let n = number Down unmaskedUE neg x hd fits in
     record {
       fits = rw (s, n) (g .0);
-      best = λ (h : ℕ) (f : isFinite h ≡ true) (l : HalfNotAbove h neg x). rw (s, n) (g .1 (negative h) (units h) (half-on-grid h) l);
+      best = λ (h : ℕ) (f : isFinite h ≡ true) (l : HalfNotAbove h neg x).
+          rw (s, n) (directed.as-numbers (negative h) (units h) neg _ (g .1 (negative h) (units h) (half-on-grid h) l));
     }
 
 pub up : UpLaw
@@ -97,7 +99,8 @@ up unmaskedUE neg x hd fits =
       fits = rw (s, n) (g .0);
       best = λ (h : ℕ) (f : isFinite h ≡ true) (l : HalfNotBelow h neg x).
           rw (s, n)
-          (directed.turned (negative h) neg (units h) (round.delivered Up neg x) (g .1 (not (negative h)) (units h) (half-on-grid h) l));
+          (directed.as-numbers neg _ (negative h) (units h)
+          (directed.turned (negative h) neg (units h) (round.delivered Up neg x) (g .1 (not (negative h)) (units h) (half-on-grid h) l)));
     }
 
 pub toward-zero : TowardZeroLaw

@@ -8,7 +8,7 @@ use lib.Bits.{bitXor, xor-shr}
 use lib.Dec.{eqb, ltb}
 use lib.IntN.{ℤ, pos, negℤ, natAbs, _+ℤ_, _*ℤ_, negℤ-negℤ, negℤ-+ℤ, +ℤ-comm, +ℤ-negℤ-cancel, *ℤ-comm, *ℤ-zero, *ℤ-negsuc}
 use borrow.Author.Tests.{ltb-true, ltb-false}
-use Rattle.half.specs.Format.{isFinite, isSubnormal, negative, negated, withSign, units}
+use Rattle.half.specs.Format.{isFinite, isSubnormal, negative, negated, withSign, units, signed, value}
 use Rattle.half.specs.Exact.{ratio}
 use Rattle.half.specs.Round.{result, roundedHalf}
 use Rattle.half.specs.Work.{place}
@@ -20,7 +20,7 @@ use Rattle.half.proofs.Steps.{zero-rounds}
 use Rattle.half.proofs.Sticky.{placed-ratio}
 use Rattle.half.proofs.Sums.{beq-eq}
 use Rattle.half.specs.declared.Outcome.{Outcome}
-use Rattle.half_laws.specs.Operations.{signed, value, signOf, cancelledSign, zeroSign}
+use Rattle.half_laws.specs.Operations.{signOf, cancelledSign, zeroSign}
 
 -- ---- the sign and the magnitude of a signed number
 
@@ -42,7 +42,7 @@ sign-above s z zero h = absurd (omega arith)
 sign-above false z (suc n) h = refl
 sign-above true z (suc n) h = refl
 
-zero-signed : (s : Bool) → signed s 0 ≡ pos 0
+pub zero-signed : (s : Bool) → signed s 0 ≡ pos 0
 zero-signed false = refl
 zero-signed true = refl
 

@@ -1,4 +1,5 @@
--- What a reader opens: Values, Laws, then Operations. proofs/Proved.antt and proofs/Operated.antt have the proof of each law.
+-- What a reader opens: Values, Laws, Operations, then Comparison. proofs/Proved.antt, Operated.antt and Compared.antt have the proof of each law.
 pub mod Values
 pub mod Laws
 pub mod Operations
+pub mod Comparison

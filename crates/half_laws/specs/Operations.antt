@@ -4,8 +4,8 @@ use Prim.Native.Nat.{ℕ, zero, suc, _^_, _<_}
 use mathlib.Core.Bool.{Bool, true, false, not, cond, Bool·beq}
 use mathlib.Core.List.{List, [], _∷_}
 use mathlib.Core.Path.{_≡_}
-use lib.IntN.{ℤ, pos, negsuc, negℤ, natAbs, _+ℤ_, _-ℤ_, _*ℤ_}
-use Rattle.half.specs.Format.{isFinite, isZero, negative, units}
+use lib.IntN.{ℤ, pos, negsuc, natAbs, _+ℤ_, _-ℤ_, _*ℤ_}
+use Rattle.half.specs.Format.{isFinite, isZero, negative, units, signed, value}
 use Rattle.half.specs.Exact.{Magnitude, ratio, rootOf, denominator}
 use Rattle.half.specs.Round.{roundedHalf}
 use Rattle.half.specs.Operations.{withDenormals, unlike, halfAdd, halfSubtract, halfMultiply, halfDivide, halfRoot, halfMultiplyAdd}
@@ -13,16 +13,7 @@ use Rattle.half.specs.declared.Mode.{Mode}
 use Rattle.half.specs.declared.Mode.the-variants.{Nearest, Down, Up, TowardZero}
 use Rattle.half.specs.declared.Outcome.{Outcome}
 
--- ---- R6.3: signed numbers. pos n is n, negsuc n is -(n + 1)
-
--- n with this sign, true for minus
-abbrev pub signed : Bool → ℕ → ℤ
-signed false n = pos n
-signed true n = negℤ (pos n)
-
--- how many units of 2 ^ -24 a finite half is
-abbrev pub value : ℕ → ℤ
-value h = signed (negative h) (units h)
+-- ---- R6.3: signed numbers. pos n is n, negsuc n is -(n + 1); `value h` is a finite half as a number of units 2 ^ -24
 
 -- the sign of v; a zero has the sign z
 abbrev pub signOf : ℤ → Bool → Bool

@@ -3,7 +3,8 @@ use Prim.Native.Nat.{ℕ, _*_, _^_, _≤_, Ordering·lt, Ordering·eq, Ordering�
 use mathlib.Core.Bool.{Bool, true, false, not}
 use mathlib.Core.Logic.{_≢_}
 use mathlib.Core.Path.{_≡_}
-use Rattle.half.specs.Format.{negative, units}
+use lib.Signed.{_≤ℤ_}
+use Rattle.half.specs.Format.{negative, units, value}
 use Rattle.half.specs.Exact.{Magnitude, ratio, rootOf, against}
 
 -- ---- an exact magnitude x and the ratio a / b: x ≤ a / b, x ≥ a / b, x = a / b, x > a / b, x < a / b
@@ -29,7 +30,7 @@ Leq x (ratio m c) = AtMost x m c
 Leq (ratio n d) (rootOf m c) = AtLeast (rootOf m c) n d
 Leq (rootOf n d) (rootOf m c) = n * c ≤ m * d
 
--- ---- signed numbers: a sign, true for minus, and a magnitude; m and n are numbers of units 2 ^ -24
+-- ---- signed numbers: a sign, true for minus, and a magnitude; m is a number of units 2 ^ -24
 
 -- ± m ≤ ± x. A minus is at most a plus; a plus is at most a minus only where both are zero.
 abbrev pub NotAbove : Bool → ℕ → Bool → Magnitude → Type 0
@@ -42,14 +43,7 @@ NotAbove false m true x = (m ≡ 0) × AtMost x 0 (2 ^ 24)
 abbrev pub NotBelow : Bool → ℕ → Bool → Magnitude → Type 0
 NotBelow s m t x = NotAbove (not s) m (not t) x
 
--- ± m ≤ ± n, by the same four cases
-abbrev pub SignedLe : Bool → ℕ → Bool → ℕ → Type 0
-SignedLe false m false n = m ≤ n
-SignedLe true m true n = n ≤ m
-SignedLe true m false n = Unit
-SignedLe false m true n = (m ≡ 0) × (n ≡ 0)
-
--- ---- finite halves, by the numbers that they stand for: h ≤ ± x, h ≥ ± x, h ≤ g
+-- ---- halves, by the numbers that they stand for: h ≤ ± x, h ≥ ± x, h ≤ g. Comparisons go by the same order (half's Comparison.antt).
 
 abbrev pub HalfNotAbove : ℕ → Bool → Magnitude → Type 0
 HalfNotAbove h neg x = NotAbove (negative h) (units h) neg x
@@ -58,4 +52,4 @@ abbrev pub HalfNotBelow : ℕ → Bool → Magnitude → Type 0
 HalfNotBelow h neg x = NotBelow (negative h) (units h) neg x
 
 abbrev pub HalfLe : ℕ → ℕ → Type 0
-HalfLe h g = SignedLe (negative h) (units h) (negative g) (units g)
+HalfLe h g = value h ≤ℤ value g

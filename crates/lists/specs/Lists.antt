@@ -34,12 +34,17 @@ tableFrom i (suc n) f = f i ∷ tableFrom (suc i) n f
 unfoldable pub table : {A : Type 0} → ℕ → (ℕ → A) → List A
 table n f = tableFrom 0 n f
 
--- ---- numbers that are read
+-- ---- numbers
 
 -- the little-endian number whose bytes stand at these places of a list; past its end a byte reads as 0
 abbrev pub numberAt : List ℕ → List ℕ → ℕ
 numberAt l [] = 0
 numberAt l (p ∷ ps) = getD l p 0 + numberAt l ps * 256
+
+-- the number with these binary digits, the lowest first
+abbrev pub binary : List ℕ → ℕ
+binary [] = 0
+binary (b ∷ bs) = b + 2 * binary bs
 
 -- ---- answers that are given in an order: the first condition that holds decides
 

@@ -15,7 +15,7 @@ use lib.ListN.{take}
 use Rattle.evex.specs.Decode.{decoded}
 use Rattle.evex.specs.declared.Instruction.{Instruction}
 use Rattle.evex.specs.declared.Rounding.{Rounding}
-use Rattle.evex.specs.declared.Rounding.the-variants.{Control, Embedded}
+use Rattle.evex.specs.declared.Rounding.the-variants.{Control, Embedded, Suppressed}
 use Rattle.evex.specs.declared.Decoded.{Decoded}
 use Rattle.evex.specs.declared.Decoded.the-variants.{Fields, Refused}
 use Rattle.evex.proofs.After.{after, by-longest}
@@ -66,10 +66,11 @@ module _ (memory : List ℕ) (s : State) (code : List ℕ) where
 refused-leaves : (s : State) (n : ℕ) → n ≢ 0 → n ≢ 8 → Leaves s (refused n s)
 refused-leaves s n z h = record { moved = λ e. absurd (z e); before = λ _ _. refl; flagged = λ e. absurd (h e); length = λ _. refl }
 
--- embedded rounding adds no flag
+-- embedded rounding and suppression add no flag
 recorded-flags : (r : Rounding) (control flags : ℕ) → flags < 64 → (f : ℕ) × (f < 64) × (recorded r control flags ≡ bitOr control f)
 recorded-flags Control control flags h = (flags, h, refl)
 recorded-flags (Embedded mode) control flags h = (0, lit≤ tt, sym (or-zero-r control))
+recorded-flags Suppressed control flags h = (0, lit≤ tt, sym (or-zero-r control))
 
 module _ (memory : List ℕ) (s : State) where
   stopped-leaves : (i : Instruction) → Leaves s (stopped memory s i)

@@ -11,11 +11,10 @@ use borrow.Author.Tests.{lt-ltb, ltb-true, not-true}
 use lib.Bits.{bitAnd, and-zero-r}
 use lib.Dec.{eqb}
 use lib.ListN.{length}
-use Rattle.half.specs.declared.Mode.{Mode}
 use Rattle.lists.proofs.Tests.{either, either-given}
 use Rattle.evex.specs.Bits.{isSet}
 use Rattle.evex.specs.declared.Rounding.{Rounding}
-use Rattle.evex.specs.declared.Rounding.the-variants.{Control, Embedded}
+use Rattle.evex.specs.declared.Rounding.the-variants.{Control, Embedded, Suppressed}
 use Rattle.evex.specs.declared.Instruction.{Instruction}
 use Rattle.evex.proofs.Bitwise.{and-bit, or-bit, ones-bit, bit-above, inverted-bit, meets-bit, single-bit}
 use Rattle.machine.specs.State.{State, Stepped, unmaskedFlags}
@@ -64,14 +63,17 @@ recorded-bit : (r : Rounding) (control flags f : ℕ) → r ≡ Control
     → isSet (recorded r control (added r control flags)) f ≡ (isSet control f || isSet (added Control control flags) f)
 recorded-bit r control flags f e = rw e (or-bit control (added Control control flags) f)
 
-recorded-embedded : (r : Rounding) (mode : Mode) (control flags : ℕ) → r ≡ Embedded mode
+recorded-silent : (r : Rounding) (control flags : ℕ) → r ≢ Control
     → (raises r control flags ≡ false) × (recorded r control (added r control flags) ≡ control)
-recorded-embedded r mode control flags e = rw e (ap (λ (n : ℕ). not (eqb n 0)) (and-zero-r flags), refl)
+recorded-silent Control control flags n = absurd (n refl)
+recorded-silent (Embedded mode) control flags n = (ap (λ (n : ℕ). not (eqb n 0)) (and-zero-r flags), refl)
+recorded-silent Suppressed control flags n = (ap (λ (n : ℕ). not (eqb n 0)) (and-zero-r flags), refl)
 
 -- nothing above the flags
 recorded-above : (r : Rounding) (control flags n : ℕ) → flags < 64 → 6 ≤ n → isSet (recorded r control flags) n ≡ isSet control n
 recorded-above Control control flags n h l = or-bit control flags n ∙ rw (bit-above flags 6 n h l) (or-false (isSet control n))
 recorded-above (Embedded mode) control flags n h l = refl
+recorded-above Suppressed control flags n h l = refl
 
 -- ---- a step
 
@@ -138,8 +140,8 @@ module _ (memory : List ℕ) (s : State) (code : List ℕ) (i : Instruction) (d 
         others =
             λ n h. rw control-is
             (recorded-above (i .rounding) (s .control) _ n (added-below s i (gathered memory s i)) h);
-        embedded =
-            λ mode r. let none = recorded-embedded (i .rounding) mode (s .control) all r in
+        silent =
+            λ r. let none = recorded-silent (i .rounding) (s .control) all r in
             (rw (ends, none .0) (λ e. omega arith), control-is ∙ none .1);
       }
 

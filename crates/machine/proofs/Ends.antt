@@ -171,6 +171,16 @@ module _ (memory : List ℕ) (s : State) (code : List ℕ) where
       go false true e f = stops memory s code size control (d .1) e f
       go false false e f = completes memory s code size control (d .1) e f
 
+  -- a step that is done has left what 0 leaves
+  pub step-done : {i : Instruction} → IsDecoded s code i → step memory s code .answer .number ≡ 0 → step memory s code ≡ completed memory s i
+  unfolding stopped
+  step-done {i} d =
+      rw (step-decoded d)
+      (either (λ (o : Stepped). o .answer .number ≡ 0 → o ≡ completed memory s i) (needsOutside s i (length memory))
+      (λ e. absurd (omega arith))
+      (either (λ (o : Stepped). o .answer .number ≡ 0 → o ≡ completed memory s i) (raisesUnmasked s i (gathered memory s i))
+      (λ e. absurd (omega arith)) (λ _. refl)))
+
   -- what holds of every end holds of a step
   pub of-step : (P : Stepped → Type 0)
       → ((n : ℕ) → n < 5 → P (refused (suc n) s))

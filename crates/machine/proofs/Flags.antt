@@ -3,7 +3,7 @@
 use Prim.Native.Nat.{ℕ, _<_}
 use mathlib.Core.Path.{_≡_, refl, sym, _∙_}
 use mathlib.Core.Bool.{Bool, true, false, cond, _&&_, _||_, true≢false}
-use mathlib.Core.List.{List}
+use mathlib.Core.List.{List, [], _∷_}
 use native.Mathlib.Omega.{arith}
 use lib.Bits.{bitOr, or-lt, and-le-l}
 use lib.Dec.{lit≤}
@@ -15,10 +15,12 @@ use Rattle.lists.proofs.Tests.{either, either-given}
 use Rattle.lists.proofs.Tables.{or-table-below}
 use Rattle.half.specs.Operations.{invalid, exactly, nanResult, exactSum, withDenormals, unlessNan, halfAdd, halfSubtract, halfMultiply}
 use Rattle.half.specs.Operations.{halfDivide, halfRoot, halfMultiplyAdd}
+use Rattle.half.specs.Comparison.{comparisonFlags, halfMinimum, halfMaximum, predicateOf, halfCompare}
 use Rattle.half.specs.declared.Mode.{Mode}
 use Rattle.half.specs.declared.Outcome.{Outcome}
 use Rattle.evex.specs.declared.Operation.{Operation}
 use Rattle.evex.specs.declared.Operation.the-variants.{Add, Multiply, Subtract, Divide, SquareRoot, Fused132, Fused213, Fused231}
+use Rattle.evex.specs.declared.Operation.the-variants.{Minimum, Maximum, Compare}
 use Rattle.machine.specs.State.{State}
 use Rattle.machine.specs.Memory.{on}
 use Rattle.machine.specs.Lanes.{Sources, unmasked, raises, earlyFlags, added, operated, raised}
@@ -97,6 +99,24 @@ module _ (m : Mode) (u : Bool) where
   unfolding halfMultiplyAdd
   fused-six a b c = search pieces depth 10
 
+-- what compares halves
+compared-six : (invalid : Bool) (f x : ℕ) → comparisonFlags invalid f x < 64
+compared-six invalid f x =
+    either (λ n. n < 64) (some isNan (f ∷ x ∷ [])) (raised-six IE invalid (lit≤ tt))
+    (raised-six DE (some isSubnormal (f ∷ x ∷ [])) (lit≤ tt))
+
+minimum-six : (f x : ℕ) → Six (halfMinimum f x)
+unfolding halfMinimum
+minimum-six f x = plain (compared-six true f x)
+
+maximum-six : (f x : ℕ) → Six (halfMaximum f x)
+unfolding halfMaximum
+maximum-six f x = plain (compared-six true f x)
+
+compare-six : (immediate f x : ℕ) → Six (halfCompare immediate f x)
+unfolding halfCompare
+compare-six immediate f x = plain (compared-six (some isSignalling (f ∷ x ∷ []) || predicateOf immediate .signals) f x)
+
 -- ---- an element, all lanes
 
 operated-six : (op : Operation) (e : Environment) (d f x : ℕ) → operated op e d f x .flags < 64
@@ -109,6 +129,9 @@ operated-six SquareRoot e d f x = root-six (e .mode) (e .underflow) x .six
 operated-six Fused132 e d f x = fused-six (e .mode) (e .underflow) d x f .six
 operated-six Fused213 e d f x = fused-six (e .mode) (e .underflow) f d x .six
 operated-six Fused231 e d f x = fused-six (e .mode) (e .underflow) f x d .six
+operated-six Minimum e d f x = minimum-six f x .six
+operated-six Maximum e d f x = maximum-six f x .six
+operated-six Compare e d f x = compare-six (e .immediate) f x .six
 
 raised-below : (s : State) (i : Instruction) (g : Sources) → raised s i g < 64
 unfolding raised

@@ -6,6 +6,7 @@ pub mod Agree
 pub mod TwoRuns
 pub mod OffLanes
 pub mod VectorFile
+pub mod Masks
 pub mod ControlWord
 pub mod Rows
 pub mod Theorems

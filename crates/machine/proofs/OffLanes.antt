@@ -22,7 +22,7 @@ use Rattle.machine.specs.Lanes.{Sources, unmasked, laneOf, raised, raise
 use Rattle.machine.specs.TwoRuns.{Needs}
 use Rattle.machine.specs.OffLanes.{Faults, Raises, Flags, OffLanes, ScalarLanes}
 
-element-below : (s : State) (i : Instruction) (j : ℕ) → on s i j ≡ true → j < i .elements
+pub element-below : (s : State) (i : Instruction) (j : ℕ) → on s i j ≡ true → j < i .elements
 unfolding on
 element-below s i j t = ltb-true j (i .elements) (and-eq-true-iff _ _ .0 t .0)
 

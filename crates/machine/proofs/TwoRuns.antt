@@ -10,10 +10,12 @@ use mathlib.Core.Bool.{Bool, true}
 use mathlib.Core.List.{List, [], _∷_}
 use native.Mathlib.Omega.{arith}
 use lib.ListN.{length, getD}
+use Rattle.evex.specs.declared.Destination.{Destination}
+use Rattle.evex.specs.declared.Destination.the-variants.{Vector, Mask}
 use Rattle.evex.specs.declared.Source.{Source}
 use Rattle.evex.specs.declared.Source.the-variants as source
 use Rattle.evex.specs.declared.Instruction.{Instruction}
-use Rattle.evex.proofs.Bounds.{bounds}
+use Rattle.evex.proofs.Bounds.{DestinationIn, bounds}
 use Rattle.lists.specs.Lists.{Each}
 use Rattle.lists.proofs.Tests.{either-related, either-equal}
 use Rattle.lists.proofs.Tables.{table-equal, length-table, getD-table}
@@ -68,9 +70,9 @@ module _ (s : State) (v : List ℕ) where
     unfolding results on
     results-same g = refl
 
-    fill-same : fill (withVectors s v) i ≡ fill s i
+    fill-same : (n : ℕ) → fill (withVectors s v) i n ≡ fill s i n
     unfolding fill on
-    fill-same = refl
+    fill-same n = refl
 
 module _ (HiddenLane HiddenByte : ℕ → Type 0) where
   abbrev HiddenPlace : ℕ → Type 0
@@ -91,8 +93,9 @@ module _ (HiddenLane HiddenByte : ℕ → Type 0) where
       registers-equal n =
           table-equal 32 (λ j k. either-equal 0 (on s i j) (λ t. numbers-equal files (lanePlaces n j) (lane-open _ n j k (lanes j t))))
 
-      destination-equal : (t : Bool) (n : ℕ) → destinationHalves (on s i) (s .vectors) t n ≡ destinationHalves (on s i) v t n
-      destination-equal t n = either-equal noHalves t (λ _. registers-equal n)
+      destination-equal : (t : Bool) (x : Destination) → destinationHalves (on s i) (s .vectors) t x ≡ destinationHalves (on s i) v t x
+      destination-equal t (Vector n) = either-equal noHalves t (λ _. registers-equal n)
+      destination-equal t (Mask n) = refl
 
       first-equal : (x : Source) → firstHalves (on s i) (s .vectors) x ≡ firstHalves (on s i) v x
       first-equal source.None = refl
@@ -134,10 +137,11 @@ module _ (HiddenLane HiddenByte : ℕ → Type 0) where
           files fits (new-length how (s .vectors) halves) (new-length how v halves)
           (λ k h o. new-byte how (s .vectors) halves k h ∙ filled-equal k h o (how (k / 2)) ∙ sym (new-byte how v halves k h))
 
-    written-alike : (halves : List ℕ) → registerAt (i .destination) + 64 ≤ length (s .vectors)
-        → EqualOpen HiddenPlace (vectorsAfter s i halves) (vectorsAfter (withVectors s v) i halves)
+    written-alike : length (s .vectors) ≡ 2048 → (halves : List ℕ) (x : Destination) → DestinationIn x
+        → EqualOpen HiddenPlace (vectorsAfter s i halves x) (vectorsAfter (withVectors s v) i halves x)
     unfolding vectorsAfter
-    written-alike halves fits = rw (fill-same s v i) (filled-alike (fill s i) halves (i .destination) fits)
+    written-alike size halves (Vector n) h = rw (fill-same s v i n) (filled-alike (fill s i n) halves n (omega arith))
+    written-alike size halves (Mask n) h = files
 
   -- ---- a step
 
@@ -158,16 +162,16 @@ module _ (HiddenLane HiddenByte : ℕ → Type 0) where
           rw (← g, control-same s v i)
           (record { answers = refl; states = record { vectors = files; masks = refl; general = refl; control = refl; pointer = refl } })
 
-      completed-alike : registerAt (i .destination) + 64 ≤ length (s .vectors)
+      completed-alike : length (s .vectors) ≡ 2048 → DestinationIn (i .destination)
           → AlikeAfter HiddenLane (completed memory₁ s i) (completed memory₂ (withVectors s v) i)
       unfolding completed
-      completed-alike fits =
+      completed-alike size h =
           rw (← g, control-same s v i, results-same s v i)
           (record {
             answers = refl;
             states =
                 record {
-                  vectors = written-alike s files i (results s i (gathered memory₁ s i)) fits;
+                  vectors = written-alike s files i size (results s i (gathered memory₁ s i)) (i .destination) h;
                   masks = refl;
                   general = refl;
                   control = refl;
@@ -199,7 +203,7 @@ module _ (HiddenLane HiddenByte : ℕ → Type 0) where
             (rw (outside-same s v i, raises-same s v i, ← g, ← memories .lengths)
             (either-related (AlikeAfter HiddenLane) (needsOutside s i (length memory₁)) (refused-alike 7 s files)
             (either-related (AlikeAfter HiddenLane) (raisesUnmasked s i (gathered memory₁ s i)) (stopped-alike s files i g)
-            (completed-alike s files i g (omega (arith, bounds code (d .1) .destination, decoded-size s code (d .0)))))))
+            (completed-alike s files i g (decoded-size s code (d .0)) (bounds code (d .1) .destination)))))
 
     step-alike : (s₁ s₂ : State) (code : List ℕ) → Alike HiddenLane s₁ s₂ → HiddenUnused HiddenLane HiddenByte memory₁ s₁ code
         → AlikeAfter HiddenLane (step memory₁ s₁ code) (step memory₂ s₂ code)

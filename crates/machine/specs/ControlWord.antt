@@ -5,16 +5,15 @@ use mathlib.Core.Path.{_≡_}
 use mathlib.Core.Logic.{_↔_, _≢_, _⊎_}
 use mathlib.Core.Bool.{true, false}
 use mathlib.Core.List.{List}
-use Rattle.half.specs.declared.Mode.{Mode}
 use Rattle.evex.specs.Bits.{isSet}
-use Rattle.evex.specs.declared.Rounding.the-variants.{Control, Embedded}
+use Rattle.evex.specs.declared.Rounding.the-variants.{Control}
 use Rattle.evex.specs.declared.Instruction.{Instruction}
 use Rattle.machine.specs.State.{State, Stepped}
 use Rattle.machine.specs.Lanes.{gathered, laneOf}
 use Rattle.machine.specs.Step.{step}
 use Rattle.machine.specs.TwoRuns.{IsDecoded, SwitchesOn}
 
--- ---- for an instruction without embedded rounding
+-- ---- for an instruction without embedded rounding or suppression
 
 -- R1.5: the exception whose flag is bit f is unmasked: its mask bit is 0
 abbrev pub IsUnmasked : State → ℕ → Type 0
@@ -37,12 +36,12 @@ module _ (memory : List ℕ) (s : State) (i : Instruction) where
 
 -- of an instruction in a state, and what its step has left
 pub record WordAfter (memory : List ℕ) (s : State) (i : Instruction) (o : Stepped) : Type 0 where
-  -- R7.2, R7.4: the flags, without embedded rounding
+  -- R7.2, R7.4: the flags, without embedded rounding or suppression
   pub flags : i .rounding ≡ Control → (f : ℕ) → f < 6 → (isSet (o .state .control) f ≡ true) ↔ SetAfter memory s i f
   -- R1.6, R7.2: the bits that are no flags
   pub others : (n : ℕ) → 6 ≤ n → isSet (o .state .control) n ≡ isSet (s .control) n
-  -- R7.5: with embedded rounding nothing is unmasked, and nothing set
-  pub embedded : (mode : Mode) → i .rounding ≡ Embedded mode → (o .answer .number ≢ 8) × (o .state .control ≡ s .control)
+  -- R7.5: with either nothing is unmasked, and nothing set
+  pub silent : i .rounding ≢ Control → (o .answer .number ≢ 8) × (o .state .control ≡ s .control)
 
 -- Of every instruction that is decoded (R11.5) and whose memory is there.
 abbrev pub ControlWord : Type 0

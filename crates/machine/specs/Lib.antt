@@ -7,6 +7,7 @@ pub mod Answers
 pub mod TwoRuns
 pub mod OffLanes
 pub mod VectorFile
+pub mod Masks
 pub mod ControlWord
 pub mod Bytes
 pub mod Rows

@@ -1,6 +1,7 @@
 -- docs/RULES.md, section 1: the state, and the control word.
-use Prim.Native.Nat.{ℕ, _+_, _-_, _*_}
+use Prim.Native.Nat.{ℕ, _+_, _-_, _*_, _/_, _%_, _^_}
 use mathlib.Core.List.{List, [], _∷_}
+use lib.ListN.{getD}
 use Rattle.half.specs.Modes.{modeOfBits}
 use Rattle.half.specs.declared.Mode.{Mode}
 use Rattle.evex.specs.Bits.{bits}
@@ -33,9 +34,17 @@ steppedOf answer vectors masks general control pointer =
 abbrev pub registerAt : ℕ → ℕ
 registerAt n = n * 64
 
+-- R1.2: byte q of it
+abbrev pub byteAt : List ℕ → ℕ → ℕ → ℕ
+byteAt vectors n q = getD vectors (registerAt n + q) 0
+
 -- R1.3: the two bytes of its lane j
 abbrev pub lanePlaces : ℕ → ℕ → List ℕ
 lanePlaces n j = (registerAt n + 2 * j) ∷ (registerAt n + 2 * j + 1) ∷ []
+
+-- R1.3: what byte q of a register is, where its lane q / 2 holds this half
+abbrev pub byteOfHalf : ℕ → ℕ → ℕ
+byteOfHalf half q = half / 256 ^ (q % 2) % 256
 
 -- ---- R1.5: the control word. R1.6: neither of these reads DAZ or FZ.
 

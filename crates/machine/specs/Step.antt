@@ -11,7 +11,7 @@ use Rattle.evex.specs.declared.Decoded.{Decoded}
 use Rattle.evex.specs.declared.Decoded.the-variants.{Fields, Refused}
 use Rattle.machine.specs.State.{State, Stepped}
 use Rattle.machine.specs.Memory.{nextPointer, needsOutside}
-use Rattle.machine.specs.Lanes.{gathered, results, raisesUnmasked, controlAfter, vectorsAfter}
+use Rattle.machine.specs.Lanes.{gathered, results, raisesUnmasked, controlAfter, vectorsAfter, masksAfter}
 
 -- ---- R4.2: the order of the answers
 
@@ -70,15 +70,15 @@ stopped memory s i =
           };
     }
 
--- R4.15, R4.17: what 0 leaves. R1.4: masks and general registers stay.
+-- R4.15, R4.17: what 0 leaves. R1.4: general registers stay.
 unfoldable pub completed : List ℕ → State → Instruction → Stepped
 completed memory s i =
     record {
       answer = record { number = 0; length = i .size };
       state =
           record {
-            vectors = vectorsAfter s i (results s i (gathered memory s i));
-            masks = s .masks;
+            vectors = vectorsAfter s i (results s i (gathered memory s i)) (i .destination);
+            masks = masksAfter (s .masks) (results s i (gathered memory s i)) (i .destination);
             general = s .general;
             control = controlAfter s i (gathered memory s i);
             pointer = nextPointer s i;

@@ -14,13 +14,14 @@ pub enum Located {
     Words { at: u64, broadcast: bool },
 }
 
-// What an operation is told besides its operands: the rounding mode, and whether UE is unmasked (R7.5).
+// What an operation is told besides its operands: the rounding mode, whether UE is unmasked (R7.5), and the immediate (R3.15).
 pub struct Environment {
     pub mode: Mode,
     pub underflow: bool,
+    pub immediate: u8,
 }
 
-// What an operation gives for one element (R2.1).
+// What an operation gives for one element (R2.1): a half, or a bit of a mask.
 pub struct Element {
     pub value: u16,
     pub flags: u8,

@@ -1,4 +1,4 @@
--- docs/RULES.md, R8.1 to R8.3: the arithmetic for a caller who has numbers, and answer 9.
+-- docs/RULES.md, R8.1 to R8.3 and R8.5: the arithmetic for a caller who has numbers, and answer 9.
 use Prim.Native.Nat.{ℕ}
 use mathlib.Core.Bool.{Bool, not, cond}
 use lib.Dec.{eqb, ltb}
@@ -17,7 +17,11 @@ modeOf n = cond (ltb 3 n) Above (Means (modeOfBits n))
 abbrev pub yes : ℕ → Bool
 yes n = not (eqb n 0)
 
--- R4.1, R8.1, R8.2: 0 with what an operation gives in the mode, or 9
+-- R4.1, R8.1, R8.5: 0 with what an operation gives
+abbrev pub done : Outcome → Rounded
+done o = record { half = o .half; flags = o .flags; number = 0 }
+
+-- R4.1, R8.1, R8.2: the same of one that takes a mode, or 9
 unfoldable pub answered : ModeNumber → (Mode → Outcome) → Rounded
-answered (Means m) f = record { half = (f m) .half; flags = (f m) .flags; number = 0 }
+answered (Means m) f = done (f m)
 answered Above f = record { half = 0x0000; flags = 0; number = 9 }

@@ -1,9 +1,11 @@
-// The half arithmetic for callers that have no enum, as C: a mode is a number, and one above 3 is answered 9 (R8.1 to R8.3).
+// The half arithmetic for callers that have no enum, as C: a mode is a number, and one above 3 is answered 9 (R8.1 to R8.3, R8.5).
 ghost use mathlib.Core.Path.{_≡_};
-ghost use Rattle.numbers.specs.Numbers.{modeOf, yes, answered};
+ghost use Rattle.numbers.specs.Numbers.{modeOf, yes, done, answered};
 ghost use Rattle.half.specs.Operations.{halfAdd, halfSubtract, halfMultiply, halfDivide, halfRoot, halfMultiplyAdd};
+ghost use Rattle.half.specs.Comparison.{halfMinimum, halfMaximum, halfCompare};
 use half::Mode;
 use half::Outcome;
+use half::comparison;
 use half::fused;
 use half::product;
 use half::quotient;
@@ -36,7 +38,7 @@ fn mode_of(number: u32) -> ModeNumber
 }
 
 fn done(o: Outcome) -> Rounded
-    ensures { λ r. ⌜ r ≡ record { half = o .half; flags = o .flags; number = 0 } ⌝ }
+    ensures { λ r. ⌜ r ≡ done o ⌝ }
 {
     Rounded {
         half: o.half,
@@ -108,4 +110,25 @@ pub fn multiply_add(mode: u32, unmasked_ue: u32, a: u16, b: u16, c: u16) -> Roun
         return refused();
     };
     done(fused::multiply_add(m, unmasked_ue != 0, a, b, c))
+}
+
+// R8.5: these take no mode.
+
+pub fn minimum(a: u16, b: u16) -> Rounded
+    ensures { λ r. ⌜ r ≡ done (halfMinimum a b) ⌝ }
+{
+    done(comparison::minimum(a, b))
+}
+
+pub fn maximum(a: u16, b: u16) -> Rounded
+    ensures { λ r. ⌜ r ≡ done (halfMaximum a b) ⌝ }
+{
+    done(comparison::maximum(a, b))
+}
+
+// The immediate has the number of a predicate in its lowest five bits.
+pub fn compare(immediate: u32, a: u16, b: u16) -> Rounded
+    ensures { λ r. ⌜ r ≡ done (halfCompare immediate a b) ⌝ }
+{
+    done(comparison::compare(immediate, a, b))
 }

@@ -1,8 +1,9 @@
 // The C entry points of include/ridgecrook.h and nothing else: each calls the proved function of its crate, and has its contract, without
 // a precondition (R8.4).
 ghost use mathlib.Core.Path.{_≡_};
-ghost use Rattle.numbers.specs.Numbers.{modeOf, yes, answered};
+ghost use Rattle.numbers.specs.Numbers.{modeOf, yes, done, answered};
 ghost use Rattle.half.specs.Operations.{halfAdd, halfSubtract, halfMultiply, halfDivide, halfRoot, halfMultiplyAdd};
+ghost use Rattle.half.specs.Comparison.{halfMinimum, halfMaximum, halfCompare};
 ghost use Rattle.machine.specs.Step.{step};
 ghost use Rattle.machine.specs.State.{stateOf, steppedOf};
 ghost use Rattle.saved.specs.Saved.{save, load};
@@ -57,6 +58,27 @@ pub extern "C" fn ridgecrook_fused_multiply_add(
     ensures { λ r. ⌜ r ≡ answered (modeOf mode) (λ (m : Mode). halfMultiplyAdd m (yes «underflow_unmasked») a b c) ⌝ }
 {
     numbers::multiply_add(mode, underflow_unmasked, a, b, c)
+}
+
+#[no_mangle]
+pub extern "C" fn ridgecrook_minimum(a: u16, b: u16) -> Rounded
+    ensures { λ r. ⌜ r ≡ done (halfMinimum a b) ⌝ }
+{
+    numbers::minimum(a, b)
+}
+
+#[no_mangle]
+pub extern "C" fn ridgecrook_maximum(a: u16, b: u16) -> Rounded
+    ensures { λ r. ⌜ r ≡ done (halfMaximum a b) ⌝ }
+{
+    numbers::maximum(a, b)
+}
+
+#[no_mangle]
+pub extern "C" fn ridgecrook_compare(a: u16, b: u16, immediate: u32) -> Rounded
+    ensures { λ r. ⌜ r ≡ done (halfCompare immediate a b) ⌝ }
+{
+    numbers::compare(immediate, a, b)
 }
 
 #[no_mangle]

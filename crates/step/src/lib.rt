@@ -6,27 +6,19 @@ ghost use Rattle.evex.proofs.Bounds.{Bounds};
 ghost use Rattle.machine.specs.Step.{step};
 ghost use Rattle.machine.specs.State.{stateOf, steppedOf};
 ghost use Rattle.step.specs.Work.{leftOf, finished, executed, refusalNumber};
-use address::is_outside;
-use address::locate;
-use control::Control;
 use evex::Decoded;
 use evex::Instruction;
 use lanes::Results;
 use lanes::all_lanes;
+use lanes::control::Control;
 use machine::Answer;
-use mask::lanes_on;
+use sources::address::is_outside;
+use sources::address::locate;
 use sources::destination_halves;
 use sources::first_halves;
+use sources::mask::lanes_on;
 use sources::second_halves;
 use store::store;
-
-mod address;
-mod control;
-mod lanes;
-mod mask;
-mod scalar;
-mod sources;
-mod store;
 
 // R4.17: an answer other than 0 has length 0.
 fn ended(number: u32) -> Answer
@@ -47,6 +39,7 @@ fn refusal_number(d: Decoded) -> u32
 // The lanes are computed: an unmasked exception (R4.16), or the destination written and the pointer moved (R4.15).
 fn finish(
     vectors: &mut [u8],
+    masks: &mut [u64; 8],
     control: &mut u32,
     pointer: &mut u64,
     i: Instruction,
@@ -56,8 +49,8 @@ fn finish(
 ) -> Answer
     requires { ⌜ (length (now vectors) ≡ 2048) × Bounds i ⌝ }
     ensures { λ r. ⌜
-        leftOf r (now (vectors .exit)) (now (control .exit)) (now (pointer .exit))
-        ≡ finished (isSet on) i results next (now (vectors .entry)) (now (control .entry)) (now (pointer .entry))
+        leftOf r (now (vectors .exit)) (now (masks .exit)) (now (control .exit)) (now (pointer .exit))
+        ≡ finished (isSet on) i results next (now (vectors .entry)) (now (masks .entry)) (now (control .entry)) (now (pointer .entry))
         ⌝ }
 {
     let word = Control { bits: *control };
@@ -67,7 +60,7 @@ fn finish(
         *control = flagged.bits;
         return ended(8);
     }
-    store(vectors, on, i, results);
+    store(vectors, masks, on, i, results);
     // R7.4: where nothing stops it no flag is left out.
     let flagged = word.recorded(rounding, results.flags);
     *control = flagged.bits;
@@ -81,7 +74,7 @@ fn finish(
 // A decoded instruction. R5.8: all sources are gathered, and all lanes computed, before anything is written.
 fn execute(
     vectors: &mut [u8],
-    masks: &[u64; 8],
+    masks: &mut [u64; 8],
     general: &[u64; 16],
     control: &mut u32,
     pointer: &mut u64,
@@ -90,7 +83,7 @@ fn execute(
 ) -> Answer
     requires { ⌜ (length (now vectors) ≡ 2048) × Bounds i ⌝ }
     ensures { λ r. ⌜
-        steppedOf r (now (vectors .exit)) (now (masks .entry)) (now (general .entry)) (now (control .exit)) (now (pointer .exit))
+        steppedOf r (now (vectors .exit)) (now (masks .exit)) (now (general .entry)) (now (control .exit)) (now (pointer .exit))
         ≡ executed (now (memory .entry))
         (stateOf (now (vectors .entry)) (now (masks .entry)) (now (general .entry)) (now (control .entry)) (now (pointer .entry)))
         i
@@ -105,14 +98,15 @@ fn execute(
     }
     let shape = i.shape;
     let first = i.first;
-    let d = destination_halves(vectors, shape.accumulates, i.destination);
+    let destination = i.destination;
+    let d = destination_halves(vectors, shape.accumulates, destination);
     let f = first_halves(vectors, first);
     let x = second_halves(on, vectors, memory, second);
     let operation = i.operation;
     let word = Control { bits: *control };
     let environment = word.environment(i);
     let results = all_lanes(on, operation, environment, d, f, x);
-    finish(vectors, control, pointer, i, on, next, results)
+    finish(vectors, masks, control, pointer, i, on, next, results)
 }
 
 // R4.19. The answer has the number (R4.1) and the length (R4.17).

@@ -2,8 +2,7 @@
 use native.Mathlib.Omega.{arith}
 use mathlib.Core.Path.{sym, _∙_}
 use denote.Ref.{now}
-use Rattle.evex.proofs.Order.{Begun, Headed, Rowed, no-bytes, first-byte, few-bytes, fixed-bits, unlisted, reserved, missing}
-use Rattle.evex.proofs.Order.{sized, accepted}
+use Rattle.evex.proofs.Order.{Begun, Headed, no-bytes, first-byte, few-bytes, fixed-bits, unlisted, listed-row}
 use borrow.Author.Needs.{needs}
 use Rattle.evex.proofs.decode.Statement.{statement}
 use Rattle.evex.proofs.decode.Tie as tie
@@ -19,17 +18,6 @@ headed c =
       begun = begun (c .before .before .before);
       head = c .before .before .of .ensures;
       fixed = sym (c .before .has-wrong-fixed-bits .ensures) ∙ c .if4 .left;
-    }
-
-rowed : (c : tie.Else5)
-    → Rowed (now (c .before .before .before .before .before .before .before .before .before .before .before .before .before .before .args .code))
-    (c .before .before .before .before .before .before .before .before .of .result)
-    (c .before .before .before .row .given .0 .0)
-rowed c =
-    record {
-      headed = headed (c .before .before .before .before .before .before);
-      found = sym (c .before .before .before .before .before .listed .ensures) ∙ c .before .before .before .row .given .1;
-      plain = sym (c .before .is-reserved .ensures) ∙ c .if5 .left;
     }
 
 returns : tie.Need-returns
@@ -69,39 +57,14 @@ enum-told c = search needs
 returns-5 : tie.Need-returns-5
 returns-5 c = unlisted (headed (c .before .before .before)) (sym (c .before .before .listed .ensures) ∙ c .enum-told .given .1)
 
-is-reserved-requires : tie.Need-is-reserved-requires
-is-reserved-requires c κs = search needs
+decode-row-requires : tie.Need-decode-row-requires
+decode-row-requires c κs = search needs
 
 returns-6 : tie.Need-returns-6
 returns-6 c =
-    reserved (headed (c .before .before .before .before .before .before))
-    (sym (c .before .before .before .before .before .listed .ensures) ∙ c .before .before .before .row .given .1)
-    (sym (c .before .is-reserved .ensures) ∙ c .if5 .taken)
-
-displacement-at-requires : tie.Need-displacement-at-requires
-displacement-at-requires c κs = search needs
-
-displacement-size-requires : tie.Need-displacement-size-requires
-displacement-size-requires c κs = search needs
-
-add-if6 : tie.Need-add-if6
-add-if6 c = search needs
-
-returns-7 : tie.Need-returns-7
-returns-7 c =
-    let placed : tie.After-displacement-size = c .before in
-    missing (rowed (placed .before .before))
-    (sized _ _ (placed .before .displacement-at .ensures .0) (placed .displacement-size .ensures .0)) (c .if6 .taken)
-
-instruction-requires : tie.Need-instruction-requires
-instruction-requires c κs = search needs
-
-returns-8 : tie.Need-returns-8
-returns-8 c =
-    let placed : tie.After-displacement-size = c .before .before in
-    rw (c .instruction .ensures)
-    (accepted (rowed (placed .before .before))
-    (sized _ _ (placed .before .displacement-at .ensures .0) (placed .displacement-size .ensures .0)) (c .before .if6 .left))
+    c .decode-row .ensures
+    ∙ listed-row (headed (c .before .before .before .before .before))
+    (sym (c .before .before .before .before .listed .ensures) ∙ c .before .before .row .given .1)
 
 pub decode-spec : {M : Type 1} → statement M
 decode-spec =
@@ -118,11 +81,5 @@ decode-spec =
     enum-known-row
     enum-told
     returns-5
-    is-reserved-requires
-    returns-6
-    displacement-at-requires
-    displacement-size-requires
-    add-if6
-    returns-7
-    instruction-requires
-    returns-8)
+    decode-row-requires
+    returns-6)

@@ -28,11 +28,11 @@ ended-requires c κs = search needs
 returns : tie.Need-returns
 returns c =
     let located : tie.After-locate = c .before .before .before in
-    let start : tie.Start = located .before .before .before .before .before .before in
+    let start : tie.Start = located .before .before .before .before .before .before .before in
     rw (c .ended .ensures)
     (refuses (start .args .memory .now) (state start) (start .args .i)
     (isSet (located .before .lanes-on .result)) (located .before .lanes-on .ensures)
-    (located .before .before .wrapping-add-u64 .result) (located .before .before .wrapping-add-u64 .ensures)
+    (located .before .before .before .wrapping-add-u64 .result) (located .before .before .before .wrapping-add-u64 .ensures)
     (located .locate .result) (located .locate .ensures .0)
     (rw (← c .before .before .is-outside .ensures) (c .before .if1 .taken)))
 
@@ -46,7 +46,7 @@ second-halves-requires : tie.Need-second-halves-requires
 second-halves-requires c κs =
     let inside : tie.Else1 = c .before .before .before .before .before .before in
     let located : tie.After-locate = inside .before .before in
-    let start : tie.Start = located .before .before .before .before .before .before in
+    let start : tie.Start = located .before .before .before .before .before .before .before in
     (start .pre .0, located .locate .ensures .1, rw (← inside .before .is-outside .ensures) (inside .if1 .left))
 
 environment-requires : tie.Need-environment-requires
@@ -57,8 +57,9 @@ all-lanes-requires c κs = search needs
 
 finish-requires : tie.Need-finish-requires
 finish-requires c κs =
-    let far = c .before .before .before .before .before .before .before .before .before .before in
-    let start : tie.Start = far .before .before .before .before .before .before .before .before .before .before .before in
+    let lanes : tie.After-all-lanes = c .before .before .before .before in
+    let second : tie.After-second-halves = lanes .before .before .before in
+    let start : tie.Start = second .before .before .before .before .before .before .before .before .before .before .before .before .before .before .before .before in
     start .pre
 
 same-length : tie.Need-same-length
@@ -66,14 +67,14 @@ same-length c = search needs
 
 returns-2 : tie.Need-returns-2
 returns-2 c =
-    let lanes : tie.After-all-lanes = c .before .before .before .before .before .before in
+    let lanes : tie.After-all-lanes = c .before .before .before .before .before .before .before in
     let second : tie.After-second-halves = lanes .before .before .before in
     let inside : tie.Else1 = second .before .before .before .before .before .before .before in
     let located : tie.After-locate = inside .before .before in
-    let start : tie.Start = located .before .before .before .before .before .before in
+    let start : tie.Start = located .before .before .before .before .before .before .before in
     finishes (start .args .memory .now) (state start) (start .args .i)
     (isSet (located .before .lanes-on .result)) (located .before .lanes-on .ensures)
-    (located .before .before .wrapping-add-u64 .result) (located .before .before .wrapping-add-u64 .ensures)
+    (located .before .before .before .wrapping-add-u64 .result) (located .before .before .before .wrapping-add-u64 .ensures)
     (located .locate .result) (located .locate .ensures .0)
     (rw (← inside .before .is-outside .ensures) (inside .if1 .left))
     (lanes .all-lanes .result)
@@ -84,7 +85,7 @@ returns-2 c =
       second .second-halves .ensures,
     )
     at (lanes .all-lanes .ensures))
-    (start .pre .1 .one)
+    (start .pre .1)
     (c .before .before .finish .ensures)
 
 pub execute-spec : {M : Type 1} → statement M

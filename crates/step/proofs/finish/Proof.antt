@@ -3,7 +3,7 @@
 use mathlib.Core.Path.{sym, ap, _∙_}
 use Rattle.machine.proofs.Flags.{all-added}
 use Rattle.step.specs.Work.{leftOf, finished}
-use Rattle.step.specs.declared.control.Control.{Control}
+use Rattle.lanes.specs.declared.control.Control.{Control}
 use borrow.Author.Needs.{needs}
 use Rattle.step.proofs.finish.Statement.{statement}
 use Rattle.step.proofs.finish.Tie as tie
@@ -26,7 +26,7 @@ returns c =
     let raised : tie.After-raises = c .before .before .before .before in
     let start : tie.Start = raised .before .before .before in
     rw (← c .before .before .added .ensures, ← raised .raises .ensures, c .before .before .before .if1 .taken, c .ended .ensures)
-    (ap (λ (word : Control). leftOf (record { number = 8; length = 0 }) (start .args .vectors .now) (word .bits)
+    (ap (λ (word : Control). leftOf (record { number = 8; length = 0 }) (start .args .vectors .now) (start .args .masks .now) (word .bits)
     (start .args .pointer .now))
     (c .before .recorded .ensures))
 
@@ -36,8 +36,8 @@ store-requires c κs = search needs
 recorded-requires-2 : tie.Need-recorded-requires-2
 recorded-requires-2 c κs = search needs
 
-cast-t12 : tie.Need-cast-t12
-cast-t12 c = search needs
+cast-t13 : tie.Need-cast-t13
+cast-t13 c = search needs
 
 same-length : tie.Need-same-length
 same-length c = search needs
@@ -45,13 +45,15 @@ same-length c = search needs
 returns-2 : tie.Need-returns-2
 unfolding finished
 returns-2 c =
-    let raised : tie.After-raises = c .before .before .before .before .before .before .before in
-    let none = sym (raised .raises .ensures) ∙ c .before .before .before .before .before .before .if1 .left in
+    let raised : tie.After-raises = c .before .before .before .before .before .before .before .before in
+    let stored : tie.After-store = c .before .before .before .before in
+    let none = sym (raised .raises .ensures) ∙ c .before .before .before .before .before .before .before .if1 .left in
     rw (
       all-added _ _ _ none,
       none,
       c .before .recorded2 .ensures,
-      c .before .before .before .before .store .ensures,
+      stored .store .ensures .0,
+      stored .store .ensures .1,
     )
 
 pub finish-spec : {M : Type 1} → statement M
@@ -65,6 +67,6 @@ finish-spec =
     returns
     store-requires
     recorded-requires-2
-    cast-t12
+    cast-t13
     same-length
     returns-2)

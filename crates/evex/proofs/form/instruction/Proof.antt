@@ -2,7 +2,6 @@
 use mir.Syntax.{w32}
 use mir.Facts.{toZ-ofZ}
 use Rattle.evex.specs.Fields.{instruction}
-use Rattle.evex.proofs.Order.{sized}
 use borrow.Author.Needs.{needs}
 use Rattle.evex.proofs.form.instruction.Statement.{statement}
 use Rattle.evex.proofs.form.instruction.Tie as tie
@@ -16,6 +15,9 @@ shape-requires c κs = search needs
 rounding-requires : tie.Need-rounding-requires
 rounding-requires c κs = search needs
 
+destination-requires : tie.Need-destination-requires
+destination-requires c κs = search needs
+
 first-requires : tie.Need-first-requires
 first-requires c κs = search needs
 
@@ -28,8 +30,8 @@ second-requires c κs = search needs
 elements-requires : tie.Need-elements-requires
 elements-requires c κs = search needs
 
-cast-t13 : tie.Need-cast-t13
-cast-t13 c = search needs
+cast-t15 : tie.Need-cast-t15
+cast-t15 c = search needs
 
 has-z-requires : tie.Need-has-z-requires
 has-z-requires c κs = search needs
@@ -37,21 +39,22 @@ has-z-requires c κs = search needs
 mask-requires : tie.Need-mask-requires
 mask-requires c κs = search needs
 
-destination-requires : tie.Need-destination-requires
-destination-requires c κs = search needs
+add-immediate : tie.Need-add-immediate
+add-immediate c = search needs
 
-add-t17 : tie.Need-add-t17
-add-t17 c = search needs
+immediate-requires : tie.Need-immediate-requires
+immediate-requires c κs = search needs
 
 returns : tie.Need-returns
 unfolding instruction
 returns c =
     let placed : tie.After-displacement = c .before .before .before .before .before in
-    let start : tie.Start = placed .before .before .before .before .before .before in
+    let begun : tie.After-rounding = placed .before .before .before in
     rw (
-      placed .before .before .before .before .operation .ensures,
-      placed .before .before .before .shape .ensures,
-      placed .before .before .rounding .ensures,
+      begun .before .before .operation .ensures,
+      begun .before .shape .ensures,
+      begun .rounding .ensures,
+      placed .before .before .destination .ensures,
       placed .before .first .ensures,
       c .before .before .before .before .second .ensures,
       toZ-ofZ {w = w32} {z = placed .displacement .result} (record { sfits = placed .displacement .ok }),
@@ -59,8 +62,8 @@ returns c =
       c .before .before .before .elements .ensures .0,
       c .before .before .has-z .ensures,
       c .before .mask .ensures,
-      c .destination .ensures,
-      sized (start .args .head) (start .args .row) (start .pre .0) (start .pre .1),
+      c .immediate .ensures,
+      begun .before .before .before .before .pre .4,
     )
 
 pub instruction-spec : {M : Type 1} → statement M
@@ -70,13 +73,14 @@ instruction-spec =
     operation-requires
     shape-requires
     rounding-requires
+    destination-requires
     first-requires
     displacement-requires
     second-requires
     elements-requires
-    cast-t13
+    cast-t15
     has-z-requires
     mask-requires
-    destination-requires
-    add-t17
+    add-immediate
+    immediate-requires
     returns)

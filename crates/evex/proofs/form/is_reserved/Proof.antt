@@ -17,16 +17,23 @@ has-extra-source-requires c κs = search needs
 has-scalar-broadcast-requires : tie.Need-has-scalar-broadcast-requires
 has-scalar-broadcast-requires c κs = search needs
 
+zeroes-mask-requires : tie.Need-zeroes-mask-requires
+zeroes-mask-requires c κs = search needs
+
+has-no-such-mask-requires : tie.Need-has-no-such-mask-requires
+has-no-such-mask-requires c κs = search needs
+
 returns : tie.Need-returns
 unfolding reservedForms
-returns c =
-    rw (
-      c .before .before .before .has-reserved-length .ensures,
-      c .before .before .zeroes-without-mask .ensures,
-      c .before .has-extra-source .ensures,
-      c .has-scalar-broadcast .ensures,
-      or-false _,
-    )
+returns c = rw (
+  c .before .before .before .before .before .has-reserved-length .ensures,
+  c .before .before .before .before .zeroes-without-mask .ensures,
+  c .before .before .before .has-extra-source .ensures,
+  c .before .before .has-scalar-broadcast .ensures,
+  c .before .zeroes-mask .ensures,
+  c .has-no-such-mask .ensures,
+  or-false _,
+)
 
 pub is-reserved-spec : {M : Type 1} → statement M
 is-reserved-spec =
@@ -36,4 +43,6 @@ is-reserved-spec =
     zeroes-without-mask-requires
     has-extra-source-requires
     has-scalar-broadcast-requires
+    zeroes-mask-requires
+    has-no-such-mask-requires
     returns)

@@ -68,8 +68,20 @@ returns-15 c = rw (c .match .keys15)
 
 returns-16 : tie.Need-returns-16
 unfolding rows
-returns-16 c =
-    let last : c .before .args .i ≡ 15 = omega (arith, beyond 15 (c .before .args .i) (c .match .rest), c .before .pre) in
+returns-16 c = rw (c .match .keys16)
+
+returns-17 : tie.Need-returns-17
+unfolding rows
+returns-17 c = rw (c .match .keys17)
+
+returns-18 : tie.Need-returns-18
+unfolding rows
+returns-18 c = rw (c .match .keys18)
+
+returns-19 : tie.Need-returns-19
+unfolding rows
+returns-19 c =
+    let last : c .before .args .i ≡ 18 = omega (arith, beyond 18 (c .before .args .i) (c .match .rest), c .before .pre) in
     rw last
 
 pub row-at-spec : {M : Type 1} → statement M
@@ -91,4 +103,7 @@ row-at-spec =
     returns-13
     returns-14
     returns-15
-    returns-16)
+    returns-16
+    returns-17
+    returns-18
+    returns-19)

@@ -47,7 +47,19 @@ returns-10 c = rw (c .match .keys10) (refl, refl, lit≤ tt)
 
 returns-11 : tie.Need-returns-11
 unfolding rows
-returns-11 c = (refl, refl, lit≤ tt)
+returns-11 c = rw (c .match .keys11) (refl, refl, lit≤ tt)
+
+returns-12 : tie.Need-returns-12
+unfolding rows
+returns-12 c = rw (c .match .keys12) (refl, refl, lit≤ tt)
+
+returns-13 : tie.Need-returns-13
+unfolding rows
+returns-13 c = rw (c .match .keys13) (refl, refl, lit≤ tt)
+
+returns-14 : tie.Need-returns-14
+unfolding rows
+returns-14 c = (refl, refl, lit≤ tt)
 
 pub start-of-spec : {M : Type 1} → statement M
 start-of-spec =
@@ -63,4 +75,7 @@ start-of-spec =
     returns-8
     returns-9
     returns-10
-    returns-11)
+    returns-11
+    returns-12
+    returns-13
+    returns-14)

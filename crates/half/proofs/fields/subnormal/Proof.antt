@@ -1,15 +1,10 @@
-use borrow.Author.Needs.{needs}
+-- `half::fields::subnormal` meets its contract.
+use Rattle.half.proofs.Classes.{subnormal-is}
 use Rattle.half.proofs.fields.subnormal.Statement.{statement}
 use Rattle.half.proofs.fields.subnormal.Tie as tie
 
-exponent-of-requires : tie.Need-exponent-of-requires
-exponent-of-requires c κs = search needs
-
-fraction-of-requires : tie.Need-fraction-of-requires
-fraction-of-requires c κs = search needs
-
 returns : tie.Need-returns
-returns c = rw (c .before .exponent-of .ensures, c .fraction-of .ensures)
+returns c = subnormal-is (c .args .h)
 
 pub subnormal-spec : {M : Type 1} → statement M
-subnormal-spec = tie.close (tie.spec exponent-of-requires fraction-of-requires returns)
+subnormal-spec = tie.close (tie.spec returns)
