@@ -62,7 +62,8 @@ extern "C" {
 #define RIDGECROOK_TOWARD_ZERO 3
 
 /* Exception flags (R1.5), at their places in the control word (MXCSR). */
-#define RIDGECROOK_IE 1  /* invalid: a signalling NaN, or an operation without a result */
+#define RIDGECROOK_IE 1  /* invalid: a signalling NaN, a quiet one that is signalled (R6.27), or an
+                            operation without a result */
 #define RIDGECROOK_DE 2  /* denormal: an operand is subnormal */
 #define RIDGECROOK_ZE 4  /* a finite number other than zero was divided by zero */
 #define RIDGECROOK_OE 8  /* overflow */
@@ -78,8 +79,8 @@ typedef struct {
 } ridgecrook_rounded;
 
 /*
- * The six operations (R8.1 to R8.3): pure functions that take every value of every argument. Common
- * to all:
+ * The six operations that round (R8.1 to R8.3): pure functions that take every value of every
+ * argument. Common to all:
  *
  *   a, b, c             The operands.
  *   mode                A rounding mode, 0 to 3. Any other number is refused: the answer is
@@ -124,6 +125,42 @@ ridgecrook_rounded ridgecrook_square_root(uint16_t a, uint32_t mode, uint32_t un
 ridgecrook_rounded ridgecrook_fused_multiply_add(uint16_t a, uint16_t b, uint16_t c, uint32_t mode,
                                                  uint32_t underflow_unmasked);
 
+/*
+ * The three operations that compare (R8.5): pure functions too. They round nothing, so they take no
+ * mode, and their number is always RIDGECROOK_DONE. Halves compare as the numbers that they are,
+ * infinities beyond all others; the two zeros are equal, and a NaN is unordered with everything
+ * (R6.25).
+ *
+ * Of minimum and maximum any NaN raises RIDGECROOK_IE; of a comparison a signalling NaN does, and a
+ * quiet one if the predicate signals. Without a NaN a subnormal operand raises RIDGECROOK_DE. No
+ * other flag is raised (R6.27).
+ */
+
+/* a where it is less than b, and else b as it is: also where one of them is a NaN, signalling or
+   not, or both are zeros of whatever sign (R6.26) */
+ridgecrook_rounded ridgecrook_minimum(uint16_t a, uint16_t b);
+
+/* a where it is greater than b, and else b as it is, likewise */
+ridgecrook_rounded ridgecrook_maximum(uint16_t a, uint16_t b);
+
+/*
+ * Whether a predicate holds of a and b: the half is 0x0001 for yes and 0x0000 for no. The lowest
+ * five bits of `immediate`, the byte that ends a VCMPPH, are the predicate's number, and all others
+ * are not read: any value will do. The 32 predicates (R6.28), with Intel's names; the five columns
+ * say what one answers where a is less than b, equal, greater or unordered, and whether a quiet
+ * NaN is signalled:
+ *
+ *    0 EQ_OQ    . E . . .    8 EQ_UQ    . E . U .   16 EQ_OS    . E . . S   24 EQ_US    . E . U S
+ *    1 LT_OS    L . . . S    9 NGE_US   L . . U S   17 LT_OQ    L . . . .   25 NGE_UQ   L . . U .
+ *    2 LE_OS    L E . . S   10 NGT_US   L E . U S   18 LE_OQ    L E . . .   26 NGT_UQ   L E . U .
+ *    3 UNORD_Q  . . . U .   11 FALSE_OQ . . . . .   19 UNORD_S  . . . U S   27 FALSE_OS . . . . S
+ *    4 NEQ_UQ   L . G U .   12 NEQ_OQ   L . G . .   20 NEQ_US   L . G U S   28 NEQ_OS   L . G . S
+ *    5 NLT_US   . E G U S   13 GE_OS    . E G . S   21 NLT_UQ   . E G U .   29 GE_OQ    . E G . .
+ *    6 NLE_US   . . G U S   14 GT_OS    . . G . S   22 NLE_UQ   . . G U .   30 GT_OQ    . . G . .
+ *    7 ORD_Q    L E G . .   15 TRUE_UQ  L E G U .   23 ORD_S    L E G . S   31 TRUE_US  L E G U S
+ */
+ridgecrook_rounded ridgecrook_compare(uint16_t a, uint16_t b, uint32_t immediate);
+
 /* The state of a machine, as a step takes it (R1.1 to R1.7). */
 #define RIDGECROOK_VECTORS_SIZE 2048    /* the vector file: 32 registers of 64 bytes */
 #define RIDGECROOK_REGISTER_SIZE 64     /* one vector register: 32 lanes of 2 bytes */
@@ -136,20 +173,20 @@ ridgecrook_rounded ridgecrook_fused_multiply_add(uint16_t a, uint16_t b, uint16_
 /* What a step hands back (R4.17): 8 bytes, without padding. */
 typedef struct {
     uint32_t number; /* 0 to 5, 7 or 8, see the table of answers */
-    uint32_t length; /* with RIDGECROOK_DONE the instruction's length in bytes, 6 to 11 (R3.14) and
+    uint32_t length; /* with RIDGECROOK_DONE the instruction's length in bytes, 6 to 12 (R3.14) and
                         at most code_length; else 0 */
 } ridgecrook_answer;
 
 /*
  * Carries out one instruction, the one that `code` begins with: a packed VADDPH, VSUBPH, VMULPH,
- * VDIVPH, VSQRTPH, VFMADD132PH, VFMADD213PH or VFMADD231PH, or a scalar VADDSH, VSUBSH, VMULSH,
- * VDIVSH, VSQRTSH, VFMADD132SH, VFMADD213SH or VFMADD231SH, with registers or memory, in 64-bit
- * mode (R2.1).
+ * VDIVPH, VSQRTPH, VFMADD132PH, VFMADD213PH, VFMADD231PH, VMINPH, VMAXPH or VCMPPH, or a scalar
+ * VADDSH, VSUBSH, VMULSH, VDIVSH, VSQRTSH, VFMADD132SH, VFMADD213SH or VFMADD231SH, with registers
+ * or memory, in 64-bit mode (R2.1).
  *
  *   vectors, vectors_length  The vector file: the 32 registers in rising order, each with its 32
  *                            lanes in rising order, a half with its low byte first (R1.2, R1.3).
  *                            A length other than RIDGECROOK_VECTORS_SIZE is refused.
- *   masks                    k0 to k7. No instruction of today writes one.
+ *   masks                    k0 to k7. VCMPPH writes one of them, and no other instruction does.
  *   general                  The general registers; only read.
  *   control                  The control word, laid out as MXCSR (R1.5): bits 0 to 5 are flags,
  *                            7 to 12 mask the same exceptions, 13 and 14 are the rounding mode.
@@ -159,28 +196,32 @@ typedef struct {
  *                            from it plus the instruction's length (R5.4).
  *   code, code_length        The bytes from the instruction on; only read. What stands behind the
  *                            instruction has no effect, so the rest of a program may be lent; its
- *                            first 11 bytes are always enough (R4.18). Lend 15 to be ready for
+ *                            first 12 bytes are always enough (R4.18). Lend 15 to be ready for
  *                            instructions of later versions: none on x86 is longer.
  *   memory, memory_length    What stands at the addresses 0 to memory_length - 1; only read. All
  *                            other addresses lie outside memory (R1.8).
  *
  * What each answer leaves:
  *
- *   RIDGECROOK_DONE       The destination register is written. Of a packed instruction lanes that
- *                         are off keep their half, or become 0 with zeroing, and what lies above
- *                         the vector becomes 0 (R5.9). Of a scalar one that goes for lane 0, by
- *                         bit 0 of the mask; lanes 1 to 7 become the first source's (the three
- *                         fused keep the destination's), and lanes 8 to 31 become 0 (R5.10).
+ *   RIDGECROOK_DONE       The destination is written. Of a packed instruction lanes that are off
+ *                         keep their half, or become 0 with zeroing, and what lies above the
+ *                         vector becomes 0 (R5.9). Of a scalar one that goes for lane 0, by bit 0
+ *                         of the mask; lanes 1 to 7 become the first source's (the three fused
+ *                         keep the destination's), and lanes 8 to 31 become 0 (R5.10). Of VCMPPH
+ *                         it is a mask, k0 too, of which all 64 bits are written: bit j is lane
+ *                         j's answer, and 0 where the lane is off or above the vector (R5.11).
  *                         The flags that lanes that are on raise are set in *control, except under
- *                         embedded rounding (R7.2, R7.5). *pointer has grown by the length, and
- *                         wraps at 2 to the 64 (R4.15). All else is as it was.
+ *                         embedded rounding, and where b suppresses exceptions (R7.2, R7.5).
+ *                         *pointer has grown by the length, and wraps at 2 to the 64 (R4.15). All
+ *                         else is as it was.
  *   RIDGECROOK_EXCEPTION  A lane that is on raised an exception whose mask bit is 0 (R7.3);
- *                         embedded rounding has all masked. Of the flags that lanes that are on
- *                         raise, masked exceptions' too, these are set in *control (R7.4): where
- *                         IE, DE or ZE is raised with its mask bit 0, only those of the three that
- *                         are raised, in whatever lane, since nothing is rounded then; else all.
- *                         (The processors tried leave PE out in one case, R7.6.) All else is as it
- *                         was. Flags that *control had before count for nothing.
+ *                         embedded rounding has all masked, and so has b with registers of VMINPH,
+ *                         VMAXPH and VCMPPH (R7.5). Of the flags that lanes that are on raise,
+ *                         masked exceptions' too, these are set in *control (R7.4): where IE, DE or
+ *                         ZE is raised with its mask bit 0, only those of the three that are
+ *                         raised, in whatever lane, since nothing is rounded then; else all. (The
+ *                         processors tried leave PE out in one case, R7.6.) All else is as it was.
+ *                         Flags that *control had before count for nothing.
  *   every other number    All is as it was (R4.16).
  *
  * If there is cause for several answers, the first in this order is given (R4.3 to R4.14):
@@ -192,9 +233,10 @@ typedef struct {
  *    3  less than six bytes
  *    5  a fixed bit of the prefix is wrong: 1 in bit 3 of byte 1, or 0 in bit 2 of byte 2
  *    4  an instruction that is not named above
- *    5  length bits 3 without embedded rounding, zeroing without a mask, VSQRTPH with bits for a
- *       first source, or a scalar instruction with memory and the bit b (R4.10)
- *    3  the SIB byte or a byte of the displacement is not there
+ *    5  length bits 3 but for registers with the bit b, zeroing without a mask, VSQRTPH with bits
+ *       for a first source, a scalar instruction with memory and the bit b, or VCMPPH with zeroing
+ *       or with a destination above k7 (R4.10)
+ *    3  the SIB byte, a byte of the displacement or the immediate is not there
  *    7  a byte outside memory is needed
  *    8  an unmasked exception
  *

@@ -1,4 +1,5 @@
-/* The arithmetic as a C engineer calls it (R8.1): the header, the archive, rows for each function. */
+/* The arithmetic as a C engineer calls it (R8.1, R8.5): the header, the archive, rows for each
+ * function. */
 #include "check.h"
 #include "ridgecrook.h"
 
@@ -120,10 +121,13 @@ static void print_failure(const row *r, ridgecrook_rounded outcome) {
     printf("\n");
 }
 
+static int same(ridgecrook_rounded a, ridgecrook_rounded b) {
+    return a.half == b.half && a.flags == b.flags && a.number == b.number;
+}
+
 static void check_row(const row *r) {
     ridgecrook_rounded outcome = call(r);
-    if (outcome.half == r->expected.half && outcome.flags == r->expected.flags &&
-        outcome.number == r->expected.number) {
+    if (same(outcome, r->expected)) {
         passed++;
     } else {
         failed++;
@@ -131,10 +135,71 @@ static void check_row(const row *r) {
     }
 }
 
+/* Minimum, maximum, and a comparison by its immediate, of which the low five bits are read. */
+typedef struct {
+    uint16_t a, b;
+    ridgecrook_rounded minimum, maximum;
+    uint32_t immediate;
+    ridgecrook_rounded comparison;
+} compared;
+
+enum { EQ_OQ, LT_OS, LE_OS, UNORD_Q, NEQ_UQ, TRUE_UQ = 15, LT_OQ = 17, TRUE_US = 31 };
+
+static const compared COMPARED[] = {
+    {0x3C00, 0x4000, {0x3C00, 0, DONE}, {0x4000, 0, DONE}, LT_OS, {1, 0, DONE}},
+    {0x4000, 0x3C00, {0x3C00, 0, DONE}, {0x4000, 0, DONE}, LT_OS, {0, 0, DONE}},
+    {0xBC00, 0xC000, {0xC000, 0, DONE}, {0xBC00, 0, DONE}, LE_OS, {0, 0, DONE}},
+    {0x7BFF, 0x7C00, {0x7BFF, 0, DONE}, {0x7C00, 0, DONE}, NEQ_UQ, {1, 0, DONE}},
+    /* zeros are equal, and the second is handed back */
+    {0x0000, 0x8000, {0x8000, 0, DONE}, {0x8000, 0, DONE}, EQ_OQ, {1, 0, DONE}},
+    {0x8000, 0x0000, {0x0000, 0, DONE}, {0x0000, 0, DONE}, LT_OS, {0, 0, DONE}},
+    /* so is it beside a NaN, as it is; a comparison signals a quiet one by some predicates */
+    {0x7E01, 0x3C00, {0x3C00, IE, DONE}, {0x3C00, IE, DONE}, LT_OQ, {0, 0, DONE}},
+    {0x3C00, 0xFE01, {0xFE01, IE, DONE}, {0xFE01, IE, DONE}, LT_OS, {0, IE, DONE}},
+    {0x7E01, 0x7D00, {0x7D00, IE, DONE}, {0x7D00, IE, DONE}, UNORD_Q, {1, IE, DONE}},
+    {0x7E01, 0x7E00, {0x7E00, IE, DONE}, {0x7E00, IE, DONE}, TRUE_UQ, {1, 0, DONE}},
+    {0x7E01, 0x7E00, {0x7E00, IE, DONE}, {0x7E00, IE, DONE}, TRUE_US, {1, IE, DONE}},
+    /* DE, but not beside a NaN */
+    {0x0001, 0x3C00, {0x0001, DE, DONE}, {0x3C00, DE, DONE}, EQ_OQ, {0, DE, DONE}},
+    {0x0000, 0x8001, {0x8001, DE, DONE}, {0x0000, DE, DONE}, LT_OQ, {0, DE, DONE}},
+    {0x0001, 0x7E00, {0x7E00, IE, DONE}, {0x7E00, IE, DONE}, UNORD_Q, {1, 0, DONE}},
+    /* bits 5 and up of the immediate */
+    {0x3C00, 0x4000, {0x3C00, 0, DONE}, {0x4000, 0, DONE}, 0x20 | LT_OS, {1, 0, DONE}},
+    {0x3C00, 0x4000, {0x3C00, 0, DONE}, {0x4000, 0, DONE}, 0x100 | EQ_OQ, {0, 0, DONE}},
+    {0x3C00, 0x4000, {0x3C00, 0, DONE}, {0x4000, 0, DONE}, 0xFFFFFFE0u | LT_OQ, {1, 0, DONE}},
+    {0x3C00, 0x4000, {0x3C00, 0, DONE}, {0x4000, 0, DONE}, 0x80000000u, {0, 0, DONE}},
+};
+
+/* Prints the line up to its halves where an outcome is not the expected one. */
+static void check_outcome(const compared *r, const char *line, ridgecrook_rounded outcome,
+                          ridgecrook_rounded expected) {
+    if (same(outcome, expected)) {
+        passed++;
+        return;
+    }
+    failed++;
+    printf("%s %04X %04X => ", line, r->a, r->b);
+    print_outcome(outcome);
+    printf(" expected ");
+    print_outcome(expected);
+    printf("\n");
+}
+
+static void check_compared(const compared *r) {
+    char line[32];
+    snprintf(line, sizeof line, "compare i%u", (unsigned)r->immediate);
+    check_outcome(r, "minimum", ridgecrook_minimum(r->a, r->b), r->minimum);
+    check_outcome(r, "maximum", ridgecrook_maximum(r->a, r->b), r->maximum);
+    check_outcome(r, line, ridgecrook_compare(r->a, r->b, r->immediate), r->comparison);
+}
+
 int main(void) {
     check_layout();
     for (size_t i = 0; i < sizeof ROWS / sizeof ROWS[0]; i++) {
         check_row(&ROWS[i]);
+    }
+    for (size_t i = 0; i < sizeof COMPARED / sizeof COMPARED[0]; i++) {
+        check_compared(&COMPARED[i]);
     }
     return finish();
 }

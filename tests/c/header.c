@@ -1,6 +1,6 @@
 /*
- * The header by itself, before any other (R8.1): every function and every constant of it, in a file that is C99, C11 and C++ alike. The
- * constants are held against what calls answer, so a wrong number shows.
+ * The header by itself, before any other (R8.1, R8.5): every function and every constant of it, in a file that is C99, C11 and C++ alike.
+ * The constants are held against what calls answer, so a wrong number shows.
  */
 #include "ridgecrook.h"
 
@@ -10,6 +10,7 @@ static const uint8_t ADD[] = {0x62, 0xF5, 0x74, 0x48, 0x58, 0xC2};        /* vad
 static const uint8_t ADD_MEMORY[] = {0x62, 0xF5, 0x74, 0x48, 0x58, 0x00}; /* vaddph zmm0, zmm1, [rax] */
 static const uint8_t NO_MAP[] = {0x62, 0xFD, 0x74, 0x48, 0x58, 0xC2};     /* byte 1 bit 3 set */
 static const uint8_t OTHER[] = {0x62, 0xF5, 0x74, 0x48, 0x5A, 0xC2};      /* opcode 5A */
+static const uint8_t EQUAL[] = {0x62, 0xF3, 0x74, 0x48, 0xC2, 0xCA, 0};   /* vcmpeqph k1, zmm1, zmm2 */
 
 static uint8_t vectors[RIDGECROOK_VECTORS_SIZE];
 static uint64_t masks[RIDGECROOK_MASKS];
@@ -46,6 +47,10 @@ static void operations(void) {
     check(is(ridgecrook_divide(0x4600, 0x4000, RIDGECROOK_NEAREST, 0), 0x4200, 0), "6 / 2");
     check(is(ridgecrook_square_root(0x4400, RIDGECROOK_NEAREST, 0), 0x4000, 0), "the root of 4");
     check(is(ridgecrook_fused_multiply_add(0x4000, 0x4200, 0x3C00, RIDGECROOK_NEAREST, 0), 0x4700, 0), "2 * 3 + 1");
+    check(is(ridgecrook_minimum(0x3C00, 0x4000), 0x3C00, 0), "the smaller of 1 and 2");
+    check(is(ridgecrook_maximum(0x3C00, 0x4000), 0x4000, 0), "the larger of 1 and 2");
+    check(is(ridgecrook_compare(0x3C00, 0x4000, 17), 1, 0), "1 < 2");
+    check(is(ridgecrook_compare(0x4000, 0x3C00, 17), 0, 0), "2 < 1");
 }
 
 static void modes(void) {
@@ -58,6 +63,8 @@ static void modes(void) {
 
 static void flags(void) {
     check(is(ridgecrook_square_root(0xBC00, RIDGECROOK_NEAREST, 0), 0xFE00, RIDGECROOK_IE), "the root of -1");
+    check(is(ridgecrook_minimum(0x3C00, 0x7E00), 0x7E00, RIDGECROOK_IE), "the minimum with a quiet NaN");
+    check(is(ridgecrook_compare(0x0001, 0x3C00, 17), 1, RIDGECROOK_DE), "a subnormal compared");
     check(is(ridgecrook_add(0x0001, 0x0001, RIDGECROOK_NEAREST, 0), 0x0002, RIDGECROOK_DE), "subnormal operands");
     check(is(ridgecrook_divide(0x3C00, 0x0000, RIDGECROOK_NEAREST, 0), 0x7C00, RIDGECROOK_ZE), "1 / 0");
     check(is(ridgecrook_add(0x7BFF, 0x7BFF, RIDGECROOK_NEAREST, 0), 0x7C00, RIDGECROOK_OE | RIDGECROOK_PE), "overflow");
@@ -66,6 +73,8 @@ static void flags(void) {
 
 static void steps(void) {
     check(step(sizeof vectors, ADD, sizeof ADD) == RIDGECROOK_DONE && pointer == sizeof ADD, "a step");
+    check(step(sizeof vectors, EQUAL, sizeof EQUAL) == RIDGECROOK_DONE && masks[1] == 0xFFFFFFFF, "a comparison, to a mask");
+    check(step(sizeof vectors, EQUAL, sizeof EQUAL - 1) == RIDGECROOK_CUT_SHORT, "its immediate missing");
     check(step(RIDGECROOK_VECTORS_SIZE - 1, ADD, sizeof ADD) == RIDGECROOK_BAD_SIZE, "a vector file that is too short");
     check(step(sizeof vectors, NULL, 0) == RIDGECROOK_CUT_SHORT, "no code");
     check(step(sizeof vectors, OTHER, sizeof OTHER) == RIDGECROOK_NOT_LISTED, "another instruction");

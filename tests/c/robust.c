@@ -2,8 +2,8 @@
  * Steps, saves and loads on random bytes and states, with every lent buffer against the end or the
  * beginning of pages that may be touched (R8.4): one byte beyond, and the program stops. After each
  * call it is checked that the answer is one that the header names, that a refusal left all as it
- * was, and that a step wrote nowhere but to its destination; what it is to compute, other tests
- * know.
+ * was, and that a step wrote nowhere but to its destination, a vector or a mask register; what it
+ * is to compute, other tests know.
  *
  *   robust [STEPS [SEED]]     1,000,000 steps if nothing is said
  */
@@ -92,7 +92,8 @@ static void fill_code(uint8_t *code, size_t length) {
     } rows[] = {
         {5, 0, 0x58}, {5, 0, 0x59}, {5, 0, 0x5C}, {5, 0, 0x5E}, {5, 0, 0x51}, {6, 1, 0x98},
         {6, 1, 0xA8}, {6, 1, 0xB8}, {5, 2, 0x58}, {5, 2, 0x59}, {5, 2, 0x5C}, {5, 2, 0x5E},
-        {5, 2, 0x51}, {6, 1, 0x99}, {6, 1, 0xA9}, {6, 1, 0xB9},
+        {5, 2, 0x51}, {6, 1, 0x99}, {6, 1, 0xA9}, {6, 1, 0xB9}, {5, 0, 0x5D}, {5, 0, 0x5F},
+        {3, 0, 0xC2},
     };
     fill(code, length);
     if (length < 6 || bits() % 4 == 0) {
@@ -106,7 +107,10 @@ static void fill_code(uint8_t *code, size_t length) {
         code[2] |= 0x78;
         code[3] |= 0x08;
     }
-    if ((code[3] & 7) == 0) { /* no zeroing without a mask */
+    if (rows[row].map == 3) { /* a destination of 0 to 7 */
+        code[1] |= 0x90;
+    }
+    if ((code[3] & 7) == 0 || rows[row].map == 3) { /* no zeroing without a mask, nor of one */
         code[3] &= 0x7F;
     }
     code[4] = rows[row].opcode;
@@ -150,9 +154,12 @@ static void keep(copy *kept, const lent *all) {
     kept->control = *all->control;
 }
 
-static int registers_stay(const copy *kept, const lent *all) {
-    return memcmp(kept->masks, all->masks, sizeof kept->masks) == 0 &&
-           memcmp(kept->general, all->general, sizeof kept->general) == 0;
+static int masks_stay(const copy *kept, const lent *all) {
+    return memcmp(kept->masks, all->masks, sizeof kept->masks) == 0;
+}
+
+static int general_stays(const copy *kept, const lent *all) {
+    return memcmp(kept->general, all->general, sizeof kept->general) == 0;
 }
 
 static int vectors_stay(const copy *kept, const lent *all) {
@@ -160,7 +167,7 @@ static int vectors_stay(const copy *kept, const lent *all) {
 }
 
 static int all_stays(const copy *kept, const lent *all) {
-    return registers_stay(kept, all) && vectors_stay(kept, all) &&
+    return masks_stay(kept, all) && general_stays(kept, all) && vectors_stay(kept, all) &&
            kept->pointer == *all->pointer && kept->control == *all->control;
 }
 
@@ -169,19 +176,45 @@ static int is_scalar(const uint8_t *code) {
     return (code[2] & 3) == 2 || ((code[2] & 3) == 1 && (code[4] & 1) == 1);
 }
 
+/* Of code that was carried out: map 3 is VCMPPH (R2.1). */
+static int is_comparison(const uint8_t *code) {
+    return (code[1] & 7) == 3;
+}
+
+/*
+ * Of VCMPPH only the mask is written, with no bit for a lane that the writemask, as it was, has
+ * off, nor for one above the length (R5.11).
+ */
+static int mask_is_right(const copy *kept, const lent *all) {
+    size_t number = all->code[5] >> 3 & 7, writemask = all->code[3] & 7;
+    int whole = all->code[5] >> 6 == 3 && (all->code[3] & 0x10) != 0;
+    unsigned lanes = whole ? 32 : 8u << (all->code[3] >> 5 & 3);
+    uint64_t allowed = (UINT64_C(1) << lanes) - 1;
+    allowed &= writemask == 0 ? UINT64_MAX : kept->masks[writemask];
+    uint64_t written = all->masks[number];
+    all->masks[number] = kept->masks[number];
+    int others_stay = masks_stay(kept, all);
+    all->masks[number] = written;
+    return others_stay && vectors_stay(kept, all) && (written & ~allowed) == 0;
+}
+
 /* Only the destination register is written (R5.9); a scalar form clears lanes 8 to 31 (R5.10). */
-static int destination_is_right(const copy *kept, const lent *all) {
+static int vector_is_right(const copy *kept, const lent *all) {
     static const uint8_t zeros[48];
     unsigned high = ~(unsigned)all->code[1];
     size_t number = (all->code[5] >> 3 & 7) | (high >> 4 & 8) | (high & 16);
     size_t at = RIDGECROOK_REGISTER_SIZE * number, end = at + RIDGECROOK_REGISTER_SIZE;
-    return memcmp(kept->vectors, all->vectors, at) == 0 &&
+    return masks_stay(kept, all) && memcmp(kept->vectors, all->vectors, at) == 0 &&
            memcmp(kept->vectors + end, all->vectors + end, all->vectors_length - end) == 0 &&
            (!is_scalar(all->code) || memcmp(all->vectors + at + 16, zeros, 48) == 0);
 }
 
+static int destination_is_right(const copy *kept, const lent *all) {
+    return is_comparison(all->code) ? mask_is_right(kept, all) : vector_is_right(kept, all);
+}
+
 typedef struct {
-    uint64_t answers[11], scalar; /* scalar instructions that were carried out */
+    uint64_t answers[11], scalar, comparison; /* the last two were carried out */
 } counts;
 
 /* Whether a step answered and left what the header allows; counts it. */
@@ -198,8 +231,9 @@ static int step_is_right(const lent *all, copy *kept, counts *seen) {
                       (*all->control & kept->control) == kept->control;
     if (answer.number == RIDGECROOK_DONE) {
         seen->scalar += (uint64_t)is_scalar(all->code);
-        return answer.length >= 6 && answer.length <= 11 && answer.length <= all->code_length &&
-               *all->pointer == kept->pointer + answer.length && registers_stay(kept, all) &&
+        seen->comparison += (uint64_t)is_comparison(all->code);
+        return answer.length >= 6 && answer.length <= 12 && answer.length <= all->code_length &&
+               *all->pointer == kept->pointer + answer.length && general_stays(kept, all) &&
                flags_added && destination_is_right(kept, all);
     }
     if (answer.number == RIDGECROOK_EXCEPTION) {
@@ -258,15 +292,17 @@ static uint64_t run(uint64_t steps, counts *seen) {
 int main(int count, char **arguments) {
     uint64_t steps = count > 1 ? strtoull(arguments[1], NULL, 10) : 1000000;
     state = count > 2 ? strtoull(arguments[2], NULL, 10) : 20240304;
-    counts seen = {{0}, 0};
+    counts seen = {{0}, 0, 0};
     printf("%" PRIu64 " steps, seed %" PRIu64 "\n", steps, state);
     uint64_t wrong = run(steps, &seen);
     printf("answers 0 to 8:");
     for (size_t i = 0; i <= 8; i++) {
         printf(" %" PRIu64, seen.answers[i]);
     }
-    printf("; scalar and done: %" PRIu64 "\n", seen.scalar);
-    int reached = seen.scalar > 0 && seen.answers[0] > seen.scalar;
+    printf("; scalar and done: %" PRIu64 ", comparisons: %" PRIu64 "\n", seen.scalar,
+           seen.comparison);
+    int reached = seen.scalar > 0 && seen.comparison > 0 &&
+                  seen.answers[0] > seen.scalar + seen.comparison;
     check(wrong == 0 && reached, "every call answered and left what the header says");
     return finish();
 }

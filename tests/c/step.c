@@ -49,38 +49,51 @@ static const uint8_t ADD_DOWN[] = {0x62, 0xF5, 0x74, 0x38, 0x58, 0xC2}; /* the s
 static const uint8_t ADD_MEMORY[] = {0x62, 0xF5, 0x74, 0x49, 0x58, 0x00}; /* k1, at RAX */
 static const uint8_t ADD_DISP8[] = {0x62, 0xF5, 0x74, 0xC9, 0x58, 0x40, 0x01};
 static const uint8_t ADD_BROADCAST[] = {0x62, 0xF5, 0x74, 0xD9, 0x58, 0x40, 0x01};
+static const uint8_t COMPARE_MEMORY[] = {0x62, 0xF3, 0x74, 0x49, 0xC2, 0x10, 0x01}; /* to k2 */
 static const uint8_t MULTIPLY[] = {0x62, 0xF5, 0x74, 0x48, 0x59, 0xC2};
 static const uint8_t DIVIDE[] = {0x62, 0xF5, 0x74, 0x49, 0x5E, 0xC2}; /* masked by k1 */
 
+static const struct {
+    uint8_t code[7];
+    size_t code_length;
+    uint32_t control, number;
+} REFUSALS[] = {
+    {{0}, 0, 0x1F80, RIDGECROOK_CUT_SHORT},
+    {{0x62}, 1, 0x1F80, RIDGECROOK_CUT_SHORT},
+    {{0x62, 0xF5, 0x74, 0x48, 0x58}, 5, 0x1F80, RIDGECROOK_CUT_SHORT},
+    {{0x62, 0xF5, 0x74, 0x48, 0x58, 0x40}, 6, 0x1F80, RIDGECROOK_CUT_SHORT},
+    {{0x61, 0xF5, 0x74, 0x48, 0x58, 0xC2}, 6, 0x1F80, RIDGECROOK_NOT_LISTED},
+    {{0x62, 0xF5, 0x74, 0x48, 0x5A, 0xC2}, 6, 0x1F80, RIDGECROOK_NOT_LISTED},
+    {{0x62, 0xFD, 0x74, 0x48, 0x58, 0xC2}, 6, 0x1F80, RIDGECROOK_RESERVED},
+    {{0x62, 0xF5, 0x70, 0x48, 0x58, 0xC2}, 6, 0x1F80, RIDGECROOK_RESERVED},
+    {{0x62, 0xF5, 0x74, 0xC8, 0x58, 0xC2}, 6, 0x1F80, RIDGECROOK_RESERVED},
+    {{0x62, 0xF5, 0x74, 0x68, 0x58, 0xC2}, 6, 0x1F80, RIDGECROOK_RESERVED},
+    {{0x62, 0xF5, 0x74, 0x48, 0x58, 0xC2}, 6, 0x11F80, RIDGECROOK_BAD_CONTROL},
+    {{0x62, 0xF5, 0x74, 0x48, 0x58, 0x00}, 6, 0x1F80, RIDGECROOK_OUTSIDE_MEMORY},
+    {{0x62, 0xF5, 0x76, 0x48, 0x5D, 0xC2}, 6, 0x1F80, RIDGECROOK_NOT_LISTED}, /* scalar */
+    {{0x62, 0xF3, 0x76, 0x48, 0xC2, 0xCA}, 7, 0x1F80, RIDGECROOK_NOT_LISTED},
+    {{0x62, 0xF3, 0x74, 0x48, 0xC2, 0xCA}, 6, 0x1F80, RIDGECROOK_CUT_SHORT}, /* no immediate */
+    {{0x62, 0xF3, 0x74, 0x48, 0xC2, 0x08}, 6, 0x1F80, RIDGECROOK_CUT_SHORT},
+    {{0x62, 0xF3, 0x74, 0xC8, 0xC2, 0xCA}, 7, 0x1F80, RIDGECROOK_RESERVED}, /* z */
+    {{0x62, 0xF3, 0x74, 0xC9, 0xC2, 0xCA}, 7, 0x1F80, RIDGECROOK_RESERVED},
+    {{0x62, 0xF3, 0x74, 0xC9, 0xC2, 0xCA}, 6, 0x1F80, RIDGECROOK_RESERVED},
+    {{0x62, 0x73, 0x74, 0x48, 0xC2, 0xCA}, 7, 0x1F80, RIDGECROOK_RESERVED}, /* mask 9 */
+    {{0x62, 0xE3, 0x74, 0x48, 0xC2, 0xCA}, 6, 0x1F80, RIDGECROOK_RESERVED}, /* mask 17 */
+    {{0x62, 0xF3, 0x74, 0x68, 0xC2, 0xCA}, 7, 0x1F80, RIDGECROOK_RESERVED}, /* length bits 3 */
+    {{0x62, 0xF3, 0x74, 0x48, 0xC2, 0x08}, 7, 0x1F80, RIDGECROOK_OUTSIDE_MEMORY},
+};
+
 /* Every answer that can be had, with what it leaves: everything, if nothing else is said. */
 static void check_refusals(void) {
-    static const struct {
-        uint8_t code[7];
-        size_t code_length;
-        uint32_t control, number;
-    } rows[] = {
-        {{0}, 0, 0x1F80, RIDGECROOK_CUT_SHORT},
-        {{0x62}, 1, 0x1F80, RIDGECROOK_CUT_SHORT},
-        {{0x62, 0xF5, 0x74, 0x48, 0x58}, 5, 0x1F80, RIDGECROOK_CUT_SHORT},
-        {{0x62, 0xF5, 0x74, 0x48, 0x58, 0x40}, 6, 0x1F80, RIDGECROOK_CUT_SHORT},
-        {{0x61, 0xF5, 0x74, 0x48, 0x58, 0xC2}, 6, 0x1F80, RIDGECROOK_NOT_LISTED},
-        {{0x62, 0xF5, 0x74, 0x48, 0x5D, 0xC2}, 6, 0x1F80, RIDGECROOK_NOT_LISTED},
-        {{0x62, 0xFD, 0x74, 0x48, 0x58, 0xC2}, 6, 0x1F80, RIDGECROOK_RESERVED},
-        {{0x62, 0xF5, 0x70, 0x48, 0x58, 0xC2}, 6, 0x1F80, RIDGECROOK_RESERVED},
-        {{0x62, 0xF5, 0x74, 0xC8, 0x58, 0xC2}, 6, 0x1F80, RIDGECROOK_RESERVED},
-        {{0x62, 0xF5, 0x74, 0x68, 0x58, 0xC2}, 6, 0x1F80, RIDGECROOK_RESERVED},
-        {{0x62, 0xF5, 0x74, 0x48, 0x58, 0xC2}, 6, 0x11F80, RIDGECROOK_BAD_CONTROL},
-        {{0x62, 0xF5, 0x74, 0x48, 0x58, 0x00}, 6, 0x1F80, RIDGECROOK_OUTSIDE_MEMORY},
-    };
     static const uint8_t memory[63];
-    for (size_t i = 0; i < sizeof rows / sizeof rows[0]; i++) {
+    for (size_t i = 0; i < sizeof REFUSALS / sizeof REFUSALS[0]; i++) {
         machine m, before;
         blank(&m);
         fill(&m, 1, 0x3C00);
-        m.control = rows[i].control;
+        m.control = REFUSALS[i].control;
         before = m;
-        ridgecrook_answer answer = step(&m, rows[i].code, rows[i].code_length, memory, 63);
-        check(is(answer, rows[i].number, 0), "the answer of a refusal, its length 0");
+        ridgecrook_answer answer = step(&m, REFUSALS[i].code, REFUSALS[i].code_length, memory, 63);
+        check(is(answer, REFUSALS[i].number, 0), "the answer of a refusal, its length 0");
         check(same(&m, &before), "a refusal leaves all as before");
     }
 }
@@ -320,6 +333,160 @@ static void check_scalars(void) {
     check_scalar_rounding();
 }
 
+/*
+ * Eight pairs for VMINPH, VMAXPH and VCMPPH: less, greater, zeros of unlike signs twice, a quiet
+ * and a signalling NaN, a subnormal, equal. In every other lane both are +0.
+ */
+static const uint16_t FIRST[8] = {0x3C00, 0x4000, 0x0000, 0x8000, 0x7E01, 0x3C00, 0x0001, 0xFC00};
+static const uint16_t SECOND[8] = {0x4000, 0x3C00, 0x8000, 0x0000, 0x3C00, 0x7D00, 0x3C00, 0xFC00};
+
+/* The pairs in zmm1 and zmm2; old halves in zmm0, old bits in every mask. */
+static void set_pairs(machine *m) {
+    blank(m);
+    fill(m, 0, 0x1234);
+    for (int lane = 0; lane < 8; lane++) {
+        set(m, 1, lane, FIRST[lane]);
+        set(m, 2, lane, SECOND[lane]);
+    }
+    for (size_t i = 0; i < RIDGECROOK_MASKS; i++) {
+        m->masks[i] = UINT64_C(0xA5A5A5A5A5A5A5A5) ^ i;
+    }
+}
+
+/* Byte 3 of a form in registers, how many lanes it has, and whether it is suppression (R3.8). */
+static const struct {
+    uint8_t byte_3;
+    int lanes, suppressed;
+} FORMS[] = {
+    {0x08, 8, 0},  {0x28, 16, 0}, {0x48, 32, 0}, /* length bits */
+    {0x18, 32, 1}, {0x38, 32, 1}, {0x58, 32, 1}, {0x78, 32, 1},
+};
+
+/* R6.26: the second of zeros and beside a NaN, as it is. Suppressed with all unmasked (R7.5). */
+static void check_minimum(uint8_t opcode, const uint16_t halves[8], const char *what) {
+    for (size_t i = 0; i < sizeof FORMS / sizeof FORMS[0]; i++) {
+        const uint8_t code[] = {0x62, 0xF5, 0x74, FORMS[i].byte_3, opcode, 0xC2};
+        machine m, expected;
+        set_pairs(&m);
+        m.control = FORMS[i].suppressed ? 0 : RIDGECROOK_CONTROL_RESET;
+        expected = m;
+        for (int lane = 0; lane < 32; lane++) {
+            set(&expected, 0, lane, lane < 8 ? halves[lane] : 0);
+        }
+        expected.control |= FORMS[i].suppressed ? 0 : RIDGECROOK_IE | RIDGECROOK_DE;
+        expected.pointer = 6;
+        check(is(step(&m, code, sizeof code, NULL, 0), RIDGECROOK_DONE, 6), what);
+        check(same(&m, &expected), what);
+    }
+}
+
+/* A predicate, by an immediate, and the bits of the eight pairs; the lanes above are equal. */
+static const struct {
+    uint8_t immediate, mask;
+    int equal;
+    const char *what;
+} PREDICATES[] = {
+    {0x00, 0x8C, 1, "EQ_OQ"},  {0x01, 0x41, 0, "LT_OS"},  {0x02, 0xCD, 1, "LE_OS"},
+    {0x03, 0x30, 0, "UNORD_Q"}, {0x04, 0x73, 0, "NEQ_UQ"}, {0x05, 0xBE, 1, "NLT_US"},
+    {0x06, 0x32, 0, "NLE_US"}, {0x07, 0xCF, 1, "ORD_Q"},  {0x0B, 0x00, 0, "FALSE_OQ"},
+    {0x0F, 0xFF, 1, "TRUE_UQ"}, {0x1D, 0x8E, 1, "GE_OQ"},  {0x1E, 0x02, 0, "GT_OQ"},
+    {0x19, 0x71, 0, "NGE_UQ"}, {0xE1, 0x41, 0, "LT_OS, bits 5 to 7"},
+};
+
+/* R5.11: each mask as destination, all 64 bits of it, under no writemask or under 0xF0F0F. */
+static void check_predicate(size_t row, size_t form, size_t number, size_t writemask) {
+    const uint8_t code[] = {0x62, 0xF3, 0x74, (uint8_t)(FORMS[form].byte_3 | writemask), 0xC2,
+                            (uint8_t)(0xC2 | number << 3), PREDICATES[row].immediate};
+    machine m, expected;
+    set_pairs(&m);
+    m.control = FORMS[form].suppressed ? 0 : RIDGECROOK_CONTROL_RESET;
+    uint64_t on = (UINT64_C(1) << FORMS[form].lanes) - 1;
+    if (writemask != 0) {
+        m.masks[writemask] = UINT64_C(0xFFFFFFFF000F0F0F);
+        on &= m.masks[writemask];
+    }
+    uint64_t above = PREDICATES[row].equal ? UINT64_C(0xFFFFFF00) : 0;
+    uint32_t flags = writemask != 0 ? 0 : RIDGECROOK_IE | RIDGECROOK_DE;
+    expected = m;
+    expected.masks[number] = (PREDICATES[row].mask | above) & on;
+    expected.control |= FORMS[form].suppressed ? 0 : flags;
+    expected.pointer = 7;
+    check(is(step(&m, code, sizeof code, NULL, 0), RIDGECROOK_DONE, 7), PREDICATES[row].what);
+    check(same(&m, &expected), PREDICATES[row].what);
+}
+
+/* R7.4: IE or DE unmasked stops a comparison; both are added, and the mask stays. */
+static void check_comparison_stops(void) {
+    static const uint32_t unmasked[] = {0x1F00, 0x1E80, 0x1E00};
+    for (size_t i = 0; i < sizeof unmasked / sizeof unmasked[0]; i++) {
+        const uint8_t code[] = {0x62, 0xF3, 0x74, 0x08, 0xC2, 0xCA, 0x00};
+        machine m, expected;
+        set_pairs(&m);
+        m.control = unmasked[i];
+        expected = m;
+        expected.control |= RIDGECROOK_IE | RIDGECROOK_DE;
+        ridgecrook_answer answer = step(&m, code, sizeof code, NULL, 0);
+        check(is(answer, RIDGECROOK_EXCEPTION, 0), "an unmasked exception of a comparison");
+        check(same(&m, &expected), "adds its flags alone");
+    }
+}
+
+/* vcmpltph k2, xmm1, [..] at the end of a page: 16 bytes, 2 under broadcast, relative to RIP. */
+static void check_comparison_memory(void) {
+    static const struct {
+        uint8_t code[11];
+        size_t length, held;
+        uint32_t number;
+        uint64_t mask;
+    } rows[] = {
+        {{0x62, 0xF3, 0x74, 0x08, 0xC2, 0x10, 0x01}, 7, 16, RIDGECROOK_DONE, 0x41},
+        {{0x62, 0xF3, 0x74, 0x08, 0xC2, 0x10, 0x01}, 7, 15, RIDGECROOK_OUTSIDE_MEMORY, 0},
+        {{0x62, 0xF3, 0x74, 0x08, 0xC2, 0x10, 0x01}, 6, 16, RIDGECROOK_CUT_SHORT, 0},
+        {{0x62, 0xF3, 0x74, 0x18, 0xC2, 0x10, 0x01}, 7, 2, RIDGECROOK_DONE, 0xED},
+        {{0x62, 0xF3, 0x74, 0x18, 0xC2, 0x10, 0x01}, 7, 1, RIDGECROOK_OUTSIDE_MEMORY, 0},
+        {{0x62, 0xF3, 0x74, 0x08, 0xC2, 0x15, 0xF5, 0xFF, 0xFF, 0xFF, 0x01}, 11, 16,
+         RIDGECROOK_DONE, 0x41}, /* at 0: 11 bytes before the next instruction */
+        {{0x62, 0xF3, 0x74, 0x08, 0xC2, 0x15, 0xF5, 0xFF, 0xFF, 0xFF, 0x01}, 10, 16,
+         RIDGECROOK_CUT_SHORT, 0},
+    };
+    uint8_t *end = page_end(), *code_end = page_end();
+    for (size_t i = 0; i < sizeof rows / sizeof rows[0]; i++) {
+        machine m, expected;
+        set_pairs(&m);
+        memcpy(end - rows[i].held, m.vectors + 2 * RIDGECROOK_REGISTER_SIZE, rows[i].held);
+        memcpy(code_end - rows[i].length, rows[i].code, rows[i].length);
+        expected = m;
+        int done = rows[i].number == RIDGECROOK_DONE;
+        if (done) {
+            expected.masks[2] = rows[i].mask;
+            expected.pointer = rows[i].length;
+            expected.control |= RIDGECROOK_IE | RIDGECROOK_DE;
+        }
+        ridgecrook_answer answer = step(&m, code_end - rows[i].length, rows[i].length,
+                                        end - rows[i].held, rows[i].held);
+        check(is(answer, rows[i].number, done ? (uint32_t)rows[i].length : 0), "from memory");
+        check(same(&m, &expected), "from memory, what it leaves");
+    }
+}
+
+static void check_comparisons(void) {
+    static const uint16_t smaller[8] = {0x3C00, 0x3C00, 0x8000, 0x0000,
+                                        0x3C00, 0x7D00, 0x0001, 0xFC00};
+    static const uint16_t larger[8] = {0x4000, 0x4000, 0x8000, 0x0000,
+                                       0x3C00, 0x7D00, 0x3C00, 0xFC00};
+    check_minimum(0x5D, smaller, "vminph");
+    check_minimum(0x5F, larger, "vmaxph");
+    for (size_t i = 0; i < sizeof PREDICATES / sizeof PREDICATES[0]; i++) {
+        for (size_t form = 0; form < sizeof FORMS / sizeof FORMS[0]; form++) {
+            size_t number = (i + form) % RIDGECROOK_MASKS;
+            check_predicate(i, form, number, 0);
+            check_predicate(i, form, number, 3); /* the destination itself, one time in eight */
+        }
+    }
+    check_comparison_stops();
+    check_comparison_memory();
+}
+
 /* R8.4: a null pointer with length 0 is common in C, and is not read. */
 static void check_null(void) {
     machine m, before;
@@ -330,7 +497,9 @@ static void check_null(void) {
     check(is(step(&m, ADD, sizeof ADD, NULL, 0), RIDGECROOK_DONE, 6), "no memory, none needed");
     check(is(step(&m, ADD_MEMORY, 6, NULL, 0), RIDGECROOK_DONE, 6), "no memory, every lane off");
     check(is(step(&m, ADD_BROADCAST, 7, NULL, 0), RIDGECROOK_DONE, 7), "the same, broadcast");
+    check(is(step(&m, COMPARE_MEMORY, 7, NULL, 0), RIDGECROOK_DONE, 7), "the same, to a mask");
     m.masks[1] = 1;
+    check(is(step(&m, COMPARE_MEMORY, 7, NULL, 0), RIDGECROOK_OUTSIDE_MEMORY, 0), "to a mask");
     check(is(step(&m, ADD_MEMORY, 6, NULL, 0), RIDGECROOK_OUTSIDE_MEMORY, 0), "one lane on");
     check(is(step(&m, ADD_BROADCAST, 7, NULL, 0), RIDGECROOK_OUTSIDE_MEMORY, 0), "broadcast");
 }
@@ -340,9 +509,7 @@ static void check_null(void) {
  * the beginning: one byte beyond would stop the program. The last word that is read ends the
  * memory; lanes whose words would begin before it are off.
  */
-static void check_ends(void) {
-    static const uint8_t far[] = {0x62, 0xF5, 0x74, 0x49, 0x58, 0x84, /* k1, at RSP-16 */
-                                  0x24, 0xF0, 0xFF, 0xFF, 0xFF};
+static void check_ends_of(const uint8_t *far, size_t size) {
     uint8_t *code = page_end(), *memory = page_end(), *vectors = page_end();
     machine m;
     int cut = 1, done = 1;
@@ -350,15 +517,15 @@ static void check_ends(void) {
     for (size_t held = 0; held <= 64; held++) {
         m.general[4] = 16 + held - 64;
         m.masks[1] = held < 2 ? 0 : UINT64_MAX << (65 - held) / 2;
-        for (size_t length = 0; length <= sizeof far; length++) {
+        for (size_t length = 0; length <= size; length++) {
             memcpy(code - length, far, length);
             ridgecrook_answer answer = ridgecrook_step(
                 vectors - 2048, 2048, m.masks, m.general, &m.control, &m.pointer, code - length,
                 length, memory - held, held);
-            if (length < sizeof far) {
+            if (length < size) {
                 cut &= is(answer, RIDGECROOK_CUT_SHORT, 0);
             } else {
-                done &= is(answer, RIDGECROOK_DONE, sizeof far);
+                done &= is(answer, RIDGECROOK_DONE, (uint32_t)size);
             }
         }
     }
@@ -370,6 +537,16 @@ static void check_ends(void) {
     check(is(answer, RIDGECROOK_DONE, 6), "buffers at the beginning of a page");
 }
 
+/* Masked by k1, at RSP-16; the second writes k2 and is as long as any (R3.14). */
+static void check_ends(void) {
+    static const uint8_t add[] = {0x62, 0xF5, 0x74, 0x49, 0x58, 0x84,
+                                  0x24, 0xF0, 0xFF, 0xFF, 0xFF};
+    static const uint8_t compare[] = {0x62, 0xF3, 0x74, 0x49, 0xC2, 0x94,
+                                      0x24, 0xF0, 0xFF, 0xFF, 0xFF, 0x01};
+    check_ends_of(add, sizeof add);
+    check_ends_of(compare, sizeof compare);
+}
+
 int main(void) {
     check_layout();
     check_refusals();
@@ -379,6 +556,7 @@ int main(void) {
     check_stages();
     check_memory();
     check_scalars();
+    check_comparisons();
     check_null();
     check_ends();
     return finish();

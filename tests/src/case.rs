@@ -1,5 +1,6 @@
 //! A case of the arithmetic, its outcome, and the one line that they are printed as:
-//! `add m1 u0 3C00 BC00 => 0000 ...... 0`.
+//! `add m1 u0 3C00 BC00 => 0000 ...... 0`, `minimum 3C00 BC00 => BC00 ...... 0`,
+//! `compare i17 3C00 BC00 => 0000 ...... 0`.
 
 use std::fmt;
 use std::str::FromStr;
@@ -20,17 +21,28 @@ pub enum Operation {
     Divide,
     SquareRoot,
     FusedMultiplyAdd,
+    Minimum,
+    Maximum,
+    Compare,
 }
 
 impl Operation {
-    pub const ALL: [Operation; 6] = [
+    pub const ALL: [Operation; 9] = [
         Operation::Add,
         Operation::Subtract,
         Operation::Multiply,
         Operation::Divide,
         Operation::SquareRoot,
         Operation::FusedMultiplyAdd,
+        Operation::Minimum,
+        Operation::Maximum,
+        Operation::Compare,
     ];
+
+    /// R8.1: those that round, and so take a mode and whether underflow is unmasked.
+    pub fn rounding() -> impl Iterator<Item = Operation> {
+        Operation::ALL.into_iter().filter(|o| o.rounds())
+    }
 
     /// The name that follows `ridgecrook_` in the C interface.
     pub fn name(self) -> &'static str {
@@ -41,7 +53,18 @@ impl Operation {
             Operation::Divide => "divide",
             Operation::SquareRoot => "square_root",
             Operation::FusedMultiplyAdd => "fused_multiply_add",
+            Operation::Minimum => "minimum",
+            Operation::Maximum => "maximum",
+            Operation::Compare => "compare",
         }
+    }
+
+    /// R8.5: a comparison, a minimum and a maximum take no mode.
+    pub fn rounds(self) -> bool {
+        !matches!(
+            self,
+            Operation::Minimum | Operation::Maximum | Operation::Compare
+        )
     }
 
     pub fn operand_count(self) -> usize {
@@ -53,17 +76,37 @@ impl Operation {
     }
 }
 
-/// A call: `mode` and `underflow_unmasked` are any numbers, as C may pass them. Operands that
-/// the operation does not have are 0.
+/// A call: `mode`, `underflow_unmasked` and `immediate` are any numbers, as C may pass them. What
+/// the operation does not have is 0: the first two where it does not round, the third where it is
+/// no comparison, an operand.
 #[derive(Clone, Copy, Debug, PartialEq, Eq)]
 pub struct Case {
     pub operation: Operation,
     pub mode: u32,
     pub underflow_unmasked: u32,
+    pub immediate: u32,
     pub operands: [u16; 3],
 }
 
 impl Case {
+    /// In mode 0, with underflow masked, and with immediate 0.
+    pub fn of(operation: Operation, operands: [u16; 3]) -> Case {
+        Case {
+            operation,
+            mode: 0,
+            underflow_unmasked: 0,
+            immediate: 0,
+            operands,
+        }
+    }
+
+    pub fn comparison(immediate: u32, a: u16, b: u16) -> Case {
+        Case {
+            immediate,
+            ..Case::of(Operation::Compare, [a, b, 0])
+        }
+    }
+
     pub fn used_operands(&self) -> &[u16] {
         &self.operands[..self.operation.operand_count()]
     }
@@ -71,8 +114,13 @@ impl Case {
 
 impl fmt::Display for Case {
     fn fmt(&self, f: &mut fmt::Formatter) -> fmt::Result {
-        let name = self.operation.name();
-        write!(f, "{name} m{} u{}", self.mode, self.underflow_unmasked)?;
+        write!(f, "{}", self.operation.name())?;
+        if self.operation.rounds() {
+            write!(f, " m{} u{}", self.mode, self.underflow_unmasked)?;
+        }
+        if self.operation == Operation::Compare {
+            write!(f, " i{}", self.immediate)?;
+        }
         for operand in self.used_operands() {
             write!(f, " {operand:04X}")?;
         }
@@ -92,21 +140,21 @@ impl FromStr for Case {
             .into_iter()
             .find(|operation| operation.name() == name)
             .ok_or(format!("no operation has the name {name}"))?;
-        let mode = numbered(word("the mode")?, 'm')?;
-        let underflow_unmasked = numbered(word("the yes or no")?, 'u')?;
-        let mut operands = [0; 3];
-        for operand in &mut operands[..operation.operand_count()] {
+        let mut case = Case::of(operation, [0; 3]);
+        if operation.rounds() {
+            case.mode = numbered(word("the mode")?, 'm')?;
+            case.underflow_unmasked = numbered(word("the yes or no")?, 'u')?;
+        }
+        if operation == Operation::Compare {
+            case.immediate = numbered(word("the immediate")?, 'i')?;
+        }
+        for operand in &mut case.operands[..operation.operand_count()] {
             let digits = word("an operand")?;
             *operand = u16::from_str_radix(digits, 16).map_err(|e| format!("{digits}: {e}"))?;
         }
         match words.next() {
             Some(extra) => Err(format!("{extra} is one word too many")),
-            None => Ok(Case {
-                operation,
-                mode,
-                underflow_unmasked,
-                operands,
-            }),
+            None => Ok(case),
         }
     }
 }
@@ -147,7 +195,8 @@ impl fmt::Display for Outcome {
     }
 }
 
-/// One implementation of the six operations: operands, mode, whether underflow is unmasked.
+/// One implementation of the nine operations: operands, then mode and whether underflow is unmasked
+/// where it rounds, or the immediate of a comparison.
 pub struct Arithmetic {
     pub add: fn(u16, u16, u32, u32) -> Outcome,
     pub subtract: fn(u16, u16, u32, u32) -> Outcome,
@@ -155,6 +204,9 @@ pub struct Arithmetic {
     pub divide: fn(u16, u16, u32, u32) -> Outcome,
     pub square_root: fn(u16, u32, u32) -> Outcome,
     pub fused_multiply_add: fn(u16, u16, u16, u32, u32) -> Outcome,
+    pub minimum: fn(u16, u16) -> Outcome,
+    pub maximum: fn(u16, u16) -> Outcome,
+    pub compare: fn(u16, u16, u32) -> Outcome,
 }
 
 impl Arithmetic {
@@ -168,6 +220,9 @@ impl Arithmetic {
             Operation::Divide => (self.divide)(a, b, mode, yes),
             Operation::SquareRoot => (self.square_root)(a, mode, yes),
             Operation::FusedMultiplyAdd => (self.fused_multiply_add)(a, b, c, mode, yes),
+            Operation::Minimum => (self.minimum)(a, b),
+            Operation::Maximum => (self.maximum)(a, b),
+            Operation::Compare => (self.compare)(a, b, case.immediate),
         }
     }
 }
@@ -182,6 +237,10 @@ mod tests {
             "add m1 u0 3C00 BC00",
             "square_root m4294967295 u2147483648 0001",
             "fused_multiply_add m0 u1 3C01 3C01 BC02",
+            "minimum 3C00 BC00",
+            "maximum 7C01 0001",
+            "compare i17 3C00 BC00",
+            "compare i4294967295 0000 8000",
         ] {
             assert_eq!(line.parse::<Case>().unwrap().to_string(), line);
             let failure = format!("{line} => 0000 ...... 0 expected 8000 ...... 0");
@@ -199,6 +258,15 @@ mod tests {
             "add m0 u0 3C00",
             "add m0 u0 3C00 3C00 3C00",
             "add m0 u0 3C00 3C000",
+            "add i0 3C00 3C00",
+            "add 3C00 3C00",
+            "minimum m0 u0 3C00 3C00",
+            "minimum i0 3C00 3C00",
+            "maximum 3C00",
+            "compare 3C00 3C00",
+            "compare m0 u0 3C00 3C00",
+            "compare i4294967296 3C00 3C00",
+            "compare i0 3C00",
         ] {
             assert!(line.parse::<Case>().is_err(), "{line}");
         }

@@ -1,11 +1,12 @@
 //! Counts what steps reach, so that a test fails where its steps miss something they were made for.
 
+mod comparing;
 mod scalar;
 
 use crate::compare::Comparison;
 use crate::machine::{Step, StepOutcome, VECTORS_SIZE};
 use crate::second::encoding::{decode, find, Address, Base, Instruction, Listed, Second, LIST};
-use crate::second::step::{first_address, is_on, raised, unmasked, EARLY};
+use crate::second::step::{first_address, lanes_on, raised, unmasked, EARLY};
 
 /// A step with its outcome, and the instruction where its bytes make one.
 pub struct Seen<'a> {
@@ -18,13 +19,9 @@ pub struct Seen<'a> {
 type Feature = (&'static str, usize, fn(&Seen) -> Option<usize>);
 
 /// Which kind is out of reach: answer 6, which no step gives (R4.12); index 4, which is the
-/// encoding of no index; 9 bytes, since no SIB byte and displacement have 3 together. Of the
-/// features of scalar rows every kind is in reach.
-const OUT_OF_REACH: [(&str, usize); 3] = [
-    ("answer", 6),
-    ("index register", 4),
-    ("length of 6 to 11 bytes", 3),
-];
+/// encoding of no index. Of the features of scalar rows and of rows that compare, every kind is in
+/// reach.
+const OUT_OF_REACH: [(&str, usize); 2] = [("answer", 6), ("index register", 4)];
 
 const FEATURES: &[Feature] = &[
     ("answer", 9, |s| Some(s.number())),
@@ -33,18 +30,18 @@ const FEATURES: &[Feature] = &[
         LIST.iter().position(|row| row.name == name)
     }),
     ("lanes 8, 16, 32", 3, |s| {
-        let instruction = s.packed().filter(|i| i.embedded_mode.is_none())?;
+        let instruction = s.packed().filter(|i| !i.hides_exceptions)?;
         [8, 16, 32].iter().position(|&n| n == instruction.elements)
     }),
     ("mode of embedded rounding", 4, |s| {
         s.packed()?.embedded_mode.map(|mode| mode as usize)
     }),
     ("mode of the control word", 4, |s| {
-        let instruction = s.done()?;
+        let instruction = s.done().filter(|i| i.listed.operation.rounds())?;
         let mode = s.before.machine.control >> 13 & 3;
         yes(instruction.embedded_mode.is_none()).map(|_| mode as usize)
     }),
-    ("destination register", 32, |s| Some(s.done()?.destination)),
+    ("destination register", 32, |s| s.done()?.written_vector()),
     ("first source register", 32, |s| {
         let instruction = s.done()?;
         yes(instruction.listed.takes_first()).map(|_| instruction.first)
@@ -67,6 +64,7 @@ const FEATURES: &[Feature] = &[
     }),
     ("some lanes off: merged, zeroed", 2, |s| {
         let instruction = s.packed()?;
+        instruction.written_vector()?;
         let on = s.lanes_on(instruction).len();
         let some = (1..instruction.elements).contains(&on);
         yes(some).map(|_| usize::from(instruction.zeroing))
@@ -156,7 +154,7 @@ const FEATURES: &[Feature] = &[
         single_bit(s.added_flags())
     }),
     ("done with no flag", 1, |s| {
-        yes(s.done()?.embedded_mode.is_none() && s.added_flags() == 0)
+        yes(!s.done()?.hides_exceptions && s.added_flags() == 0)
     }),
     ("unmasked exception alone", 6, |s| {
         single_bit(s.unmasked_raised()?)
@@ -212,10 +210,10 @@ const FEATURES: &[Feature] = &[
         let high = s.before.machine.control >> 16;
         yes(high.is_power_of_two()).map(|_| high.ilog2() as usize)
     }),
-    ("cut short after so many bytes", 11, |s| {
+    ("cut short after so many bytes", 12, |s| {
         yes(s.number() == 3).map(|_| s.before.code.len())
     }),
-    ("length of 6 to 11 bytes", 6, |s| Some(s.done()?.length - 6)),
+    ("length of 6 to 12 bytes", 7, |s| Some(s.done()?.length - 6)),
     ("bytes after the instruction", 1, |s| {
         yes(s.before.code.len() > s.done()?.length)
     }),
@@ -224,7 +222,7 @@ const FEATURES: &[Feature] = &[
         single_bit(code[1] >> 3 & 1 | !code[2] >> 1 & 2)
     }),
     ("length bits 11: register, memory, broadcast", 3, |s| {
-        let code = s.reserved(false)?;
+        let code = s.reserved(is_packed)?;
         let (length, extra) = (code[3] >> 5 & 3, code[3] >> 4 & 1);
         yes(length == 3)?;
         match (code[5] >> 6, extra) {
@@ -234,10 +232,10 @@ const FEATURES: &[Feature] = &[
         }
     }),
     ("zeroing without a mask", 1, |s| {
-        yes(s.reserved(false)?[3] & 0x87 == 0x80)
+        yes(s.reserved(is_packed)?[3] & 0x87 == 0x80)
     }),
     ("root with a first source: V', vvvv", 2, |s| {
-        let code = s.reserved(false)?;
+        let code = s.reserved(is_packed)?;
         yes(code[4] == 0x51)?;
         let (v, vvvv) = (!code[3] >> 3 & 1, !code[2] >> 3 & 15);
         single_bit(v | u8::from(vvvv != 0) << 1)
@@ -253,7 +251,12 @@ const FEATURES: &[Feature] = &[
 ];
 
 fn all_features() -> impl Iterator<Item = &'static Feature> {
-    FEATURES.iter().chain(scalar::FEATURES)
+    let more = scalar::FEATURES.iter().chain(comparing::FEATURES);
+    FEATURES.iter().chain(more)
+}
+
+fn is_packed(listed: &Listed) -> bool {
+    !listed.is_scalar()
 }
 
 fn yes(holds: bool) -> Option<usize> {
@@ -284,9 +287,9 @@ fn form(instruction: &Instruction) -> usize {
 
 fn destination_as_source(s: &Seen) -> Option<usize> {
     let instruction = s.done()?;
-    let is_first = instruction.listed.takes_first() && instruction.first == instruction.destination;
-    let is_second =
-        matches!(instruction.second, Second::Register(n) if n == instruction.destination);
+    let destination = instruction.written_vector()?;
+    let is_first = instruction.listed.takes_first() && instruction.first == destination;
+    let is_second = matches!(instruction.second, Second::Register(n) if n == destination);
     one_or_both(is_first, is_second)
 }
 
@@ -330,7 +333,7 @@ impl Seen<'_> {
     }
 
     fn packed(&self) -> Option<&Instruction> {
-        self.done().filter(|i| !i.listed.is_scalar())
+        self.done().filter(|i| is_packed(i.listed))
     }
 
     fn scalar(&self) -> Option<&Instruction> {
@@ -342,20 +345,16 @@ impl Seen<'_> {
         usize::from(self.before.code[3] >> 5 & 3)
     }
 
-    /// The first six bytes of a scalar row, or of another, that is refused with 5 after the list.
-    fn reserved(&self, scalar: bool) -> Option<&[u8]> {
+    /// The first six bytes of such a row that is refused with 5 after the list.
+    fn reserved(&self, chosen: fn(&Listed) -> bool) -> Option<&[u8]> {
         let code = self.before.code.get(..6).filter(|_| self.number() == 5)?;
         let fixed_bits = code[1] & 8 == 0 && code[2] & 4 != 0;
-        let row = find(code).filter(|row| fixed_bits && row.is_scalar() == scalar);
+        let row = find(code).filter(|row| fixed_bits && chosen(row));
         row.map(|_| code)
     }
 
     fn lanes_on(&self, instruction: &Instruction) -> Vec<usize> {
-        let machine = &self.before.machine;
-        let lanes = 0..instruction.elements;
-        lanes
-            .filter(|&lane| is_on(machine, instruction, lane))
-            .collect()
+        lanes_on(&self.before.machine, instruction)
     }
 
     /// The address of a memory operand of which some word was read.

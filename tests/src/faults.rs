@@ -1,17 +1,43 @@
 //! Deliberate faults, put into an outcome of the library: what compares it with the processor is to
 //! find each of them out wherever it changes something.
 
+mod comparing;
+
 use crate::case::{DE, IE, OE, PE, UE, ZE};
 use crate::differences::on_a_processor;
 use crate::machine::{Answer, Machine, Step, StepOutcome};
 use crate::second;
-use crate::second::encoding::{decode, Instruction, Second, Source};
+use crate::second::encoding::{decode, Destination, Instruction, Second, Source};
 use crate::second::step::{is_on, lane_cases, unmasked, EARLY};
+use crate::witness::{verdict, Verdict};
 
 /// What is wrong, and what it does to an outcome.
 pub type Fault = (&'static str, fn(&Step, &mut StepOutcome));
 
-pub const FAULTS: [Fault; 40] = [
+pub fn all() -> impl Iterator<Item = &'static Fault> {
+    FAULTS.iter().chain(&comparing::FAULTS)
+}
+
+/// How often a fault changed an outcome, and how often that was found out.
+#[derive(Clone, Copy, Default)]
+pub struct Tried {
+    pub made: u64,
+    pub found: u64,
+}
+
+/// Puts each fault into the library's outcome of a step; counts whether the verdict finds it out.
+pub fn try_all(step: &Step, library: &StepOutcome, processor: &StepOutcome, counts: &mut [Tried]) {
+    for ((_, spoil), count) in all().zip(counts) {
+        let mut spoiled = library.clone();
+        spoil(step, &mut spoiled);
+        if spoiled != *library {
+            count.made += 1;
+            count.found += u64::from(verdict(step, &spoiled, processor) == Verdict::Differs);
+        }
+    }
+}
+
+const FAULTS: [Fault; 40] = [
     ("a half off by one, where PE is raised", |step, outcome| {
         if done_with(step, outcome, PE) {
             change_lane(step, outcome, |half| half ^ 1);
@@ -112,16 +138,16 @@ pub const FAULTS: [Fault; 40] = [
         }
     }),
     ("lanes that are off as zeros without z", |step, outcome| {
-        for_lanes(step, outcome, |machine, i, lane| {
+        for_lanes(step, outcome, |machine, i, to, lane| {
             if lane < i.elements && !i.zeroing && !is_on(machine, i, lane) {
-                machine.set_lane(i.destination, lane, 0);
+                machine.set_lane(to, lane, 0);
             }
         });
     }),
     ("bytes above the length kept", |step, outcome| {
-        for_lanes(step, outcome, |machine, i, lane| {
+        for_lanes(step, outcome, |machine, i, to, lane| {
             if !i.listed.is_scalar() && lane >= i.elements {
-                machine.set_lane(i.destination, lane, step.machine.lane(i.destination, lane));
+                machine.set_lane(to, lane, step.machine.lane(to, lane));
             }
         });
     }),
@@ -181,16 +207,16 @@ pub const FAULTS: [Fault; 40] = [
         },
     ),
     ("scalar: lanes 1 to 7 as zeros", |step, outcome| {
-        for_lanes(step, outcome, |machine, i, lane| {
+        for_lanes(step, outcome, |machine, i, to, lane| {
             if i.listed.is_scalar() && (1..8).contains(&lane) {
-                machine.set_lane(i.destination, lane, 0);
+                machine.set_lane(to, lane, 0);
             }
         });
     }),
     ("scalar: lanes 1 to 7 as zeros with z", |step, outcome| {
-        for_lanes(step, outcome, |machine, i, lane| {
+        for_lanes(step, outcome, |machine, i, to, lane| {
             if i.listed.is_scalar() && i.zeroing && (1..8).contains(&lane) {
-                machine.set_lane(i.destination, lane, 0);
+                machine.set_lane(to, lane, 0);
             }
         });
     }),
@@ -205,11 +231,11 @@ pub const FAULTS: [Fault; 40] = [
     (
         "scalar: NaNs in lanes 1 to 7 made quiet",
         |step, outcome| {
-            for_lanes(step, outcome, |machine, i, lane| {
-                let half = machine.lane(i.destination, lane);
+            for_lanes(step, outcome, |machine, i, to, lane| {
+                let half = machine.lane(to, lane);
                 let is_nan = half & 0x7FFF > 0x7C00;
                 if i.listed.is_scalar() && is_nan && lane > 0 {
-                    machine.set_lane(i.destination, lane, half | 0x0200);
+                    machine.set_lane(to, lane, half | 0x0200);
                 }
             });
         },
@@ -220,9 +246,10 @@ pub const FAULTS: [Fault; 40] = [
             let scalar =
                 instruction(step).filter(|i| i.listed.is_scalar() && !i.listed.accumulates());
             if let Some(i) = scalar.filter(|_| outcome.answer.number == 8) {
+                let to = i.written_vector().expect("a scalar row");
                 for lane in 1..8 {
                     let half = step.machine.lane(i.first, lane);
-                    outcome.after.machine.set_lane(i.destination, lane, half);
+                    outcome.after.machine.set_lane(to, lane, half);
                 }
             }
         },
@@ -251,15 +278,15 @@ fn copy_above(
     lanes: std::ops::Range<usize>,
     chosen: impl Fn(usize, &Instruction) -> bool,
 ) {
-    for_lanes(step, outcome, |machine, i, lane| {
+    for_lanes(step, outcome, |machine, i, to, lane| {
         let register = match (from, i.second) {
-            (Source::Destination, _) => i.destination,
+            (Source::Destination, _) => to,
             (Source::First, _) => i.first,
             (Source::Second, Second::Register(second)) => second,
             (Source::Second, _) => return,
         };
         if i.listed.is_scalar() && lanes.contains(&lane) && chosen(lane, i) {
-            machine.set_lane(i.destination, lane, step.machine.lane(register, lane));
+            machine.set_lane(to, lane, step.machine.lane(register, lane));
         }
     });
 }
@@ -290,6 +317,11 @@ fn instruction(step: &Step) -> Option<Instruction> {
     decode(&step.code).ok()
 }
 
+/// The instruction of a step that is done.
+fn done(step: &Step, outcome: &StepOutcome) -> Option<Instruction> {
+    instruction(step).filter(|_| outcome.answer.number == 0)
+}
+
 /// Whether the step is done and has raised a flag that was not there before.
 fn done_with(step: &Step, outcome: &StepOutcome, flag: u8) -> bool {
     let new = outcome.after.machine.control & !step.machine.control;
@@ -298,7 +330,7 @@ fn done_with(step: &Step, outcome: &StepOutcome, flag: u8) -> bool {
 
 /// Sets flags of each lane that is on, as they are picked by those unmasked from the lane's own.
 fn add_flags(step: &Step, outcome: &mut StepOutcome, pick: impl Fn(u8, u8) -> u8) {
-    let instruction = instruction(step).expect("it was answered with 8");
+    let instruction = instruction(step).expect("it was answered with 0 or 8");
     let unmasked = unmasked(&step.machine, &instruction);
     for case in lane_cases(step, &instruction).expect("its memory is there") {
         let flags = pick(unmasked, second::answer(&case).flags);
@@ -311,39 +343,40 @@ fn drop_flag(step: &Step, outcome: &mut StepOutcome, flag: u8) {
     outcome.after.machine.control &= !(new & u32::from(flag));
 }
 
-/// Goes through the 32 lanes of the destination of a step that is done.
+/// Goes through the 32 lanes of the vector register that a step has written, with its number.
 fn for_lanes(
     step: &Step,
     outcome: &mut StepOutcome,
-    change: impl Fn(&mut Machine, &Instruction, usize),
+    change: impl Fn(&mut Machine, &Instruction, usize, usize),
 ) {
-    if outcome.answer.number == 0 {
-        let instruction = instruction(step).expect("it was done");
+    let instruction = done(step, outcome);
+    let written = instruction.as_ref().and_then(Instruction::written_vector);
+    if let (Some(instruction), Some(to)) = (instruction, written) {
         for lane in 0..32 {
-            change(&mut outcome.after.machine, &instruction, lane);
+            change(&mut outcome.after.machine, &instruction, to, lane);
         }
     }
 }
 
 /// Changes the halves of the lanes that are on.
 fn change_lane(step: &Step, outcome: &mut StepOutcome, change: impl Fn(u16) -> u16) {
-    for_lanes(step, outcome, |machine, i, lane| {
+    for_lanes(step, outcome, |machine, i, to, lane| {
         if is_on(machine, i, lane) {
-            machine.set_lane(
-                i.destination,
-                lane,
-                change(machine.lane(i.destination, lane)),
-            );
+            machine.set_lane(to, lane, change(machine.lane(to, lane)));
         }
     });
 }
 
-/// Changes the lowest lane of the destination, whatever the answer is.
+/// Changes the lowest lane of the destination, or its bit, whatever the answer is.
 fn change_destination(step: &Step, outcome: &mut StepOutcome) {
-    if let Some(i) = instruction(step) {
-        let machine = &mut outcome.after.machine;
-        let half = machine.lane(i.destination, 0);
-        machine.set_lane(i.destination, 0, half ^ 0x4000);
+    let machine = &mut outcome.after.machine;
+    match instruction(step).map(|i| i.destination) {
+        Some(Destination::Vector(number)) => {
+            let half = machine.lane(number, 0);
+            machine.set_lane(number, 0, half ^ 0x4000);
+        }
+        Some(Destination::Mask(number)) => machine.masks[number] ^= 1,
+        None => {}
     }
 }
 
@@ -358,4 +391,28 @@ fn finish(step: &Step, outcome: &mut StepOutcome) {
 fn refuse(step: &Step, outcome: &mut StepOutcome, number: u32) {
     outcome.after = step.clone();
     outcome.answer = Answer { number, length: 0 };
+}
+
+#[cfg(test)]
+mod tests {
+    use super::*;
+    use crate::witness::WitnessSteps;
+
+    /// Where no processor is: the second program and the known difference stand in its place, and
+    /// the second program in the library's.
+    #[test]
+    fn each_fault_is_made_and_found_out() {
+        let mut steps = WitnessSteps::seeded(2, false);
+        let mut counts = vec![Tried::default(); all().count()];
+        for _ in 0..12_000 {
+            let (step, _) = steps.step();
+            let by_rules = second::step(&step);
+            let (processor, _) = on_a_processor(&step, &by_rules);
+            try_all(&step, &by_rules, &processor, &mut counts);
+        }
+        for ((name, _), Tried { made, found }) in all().zip(counts) {
+            assert!(made > 0, "{name}: never made");
+            assert_eq!(found, made, "{name}: made, and not found out");
+        }
+    }
 }

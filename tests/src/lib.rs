@@ -1,6 +1,7 @@
 //! The outside evidence for Ridgecrook: an independent second program, the library through its
 //! C interface, and what compares the two.
 
+pub mod alike;
 pub mod assemble;
 pub mod case;
 pub mod command_input;
@@ -11,6 +12,7 @@ pub mod differences;
 pub mod faults;
 pub mod library;
 pub mod machine;
+pub mod predicates;
 pub mod processor;
 pub mod program;
 pub mod random;

@@ -17,6 +17,9 @@ extern "C" {
         mode: u32,
         underflow_unmasked: u32,
     ) -> Outcome;
+    fn ridgecrook_minimum(a: u16, b: u16) -> Outcome;
+    fn ridgecrook_maximum(a: u16, b: u16) -> Outcome;
+    fn ridgecrook_compare(a: u16, b: u16, immediate: u32) -> Outcome;
     fn ridgecrook_step(
         vectors: *mut u8,
         vectors_length: usize,
@@ -84,6 +87,21 @@ pub fn fused_multiply_add(a: u16, b: u16, c: u16, mode: u32, underflow_unmasked:
     unsafe { ridgecrook_fused_multiply_add(a, b, c, mode, underflow_unmasked) }
 }
 
+#[inline]
+pub fn minimum(a: u16, b: u16) -> Outcome {
+    unsafe { ridgecrook_minimum(a, b) }
+}
+
+#[inline]
+pub fn maximum(a: u16, b: u16) -> Outcome {
+    unsafe { ridgecrook_maximum(a, b) }
+}
+
+#[inline]
+pub fn compare(a: u16, b: u16, immediate: u32) -> Outcome {
+    unsafe { ridgecrook_compare(a, b, immediate) }
+}
+
 pub const LIBRARY: Arithmetic = Arithmetic {
     add,
     subtract,
@@ -91,6 +109,9 @@ pub const LIBRARY: Arithmetic = Arithmetic {
     divide,
     square_root,
     fused_multiply_add,
+    minimum,
+    maximum,
+    compare,
 };
 
 /// What the library answers to a case.

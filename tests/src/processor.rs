@@ -19,6 +19,7 @@
 mod host;
 mod identify;
 pub mod pairs;
+pub mod singles;
 
 use crate::machine::{Answer, Machine, Step, StepOutcome, VECTORS_SIZE};
 use host::{Caught, Frame, PAGE};

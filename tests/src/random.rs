@@ -73,8 +73,11 @@ impl Random {
 }
 
 /// A case of an operation in any mode, with underflow masked in half of the cases and otherwise
-/// unmasked by any number but 0.
+/// unmasked by any number but 0; or one that does not round.
 pub fn case(random: &mut Random, operation: Operation) -> Case {
+    if !operation.rounds() {
+        return compared(random, operation);
+    }
     let mut operands = match random.within(0, 3) {
         0 => [random.half(), random.half(), random.half()],
         1 => aimed(random, operation),
@@ -88,11 +91,45 @@ pub fn case(random: &mut Random, operation: Operation) -> Case {
         _ => (random.bits() as u32).max(1),
     };
     Case {
-        operation,
         mode,
         underflow_unmasked,
-        operands,
+        ..Case::of(operation, operands)
     }
+}
+
+/// Zeros, subnormals, ones, infinities and NaNs of both kinds, which equal, exceed or cannot be
+/// compared with one another.
+const COMPARED: [u16; 14] = [
+    0x0000, 0x8000, 0x0001, 0x8001, 0x83FF, 0x0400, 0x3C00, 0xBC00, 0x7C00, 0xFC00, 0x7C01, 0xFD00,
+    0x7E00, 0xFFFF,
+];
+
+/// Any halves, one twice, neighbours of either sign, two of those above, or zeros of unlike signs;
+/// any immediate.
+fn compared(random: &mut Random, operation: Operation) -> Case {
+    let any = random.half();
+    let [a, b] = match random.within(0, 6) {
+        0 => [any, random.half()],
+        1 => [any, any],
+        2 => [any, random.near(any) ^ random.half() & 0x8000],
+        3 => [any, random.one_of(&COMPARED)],
+        4 => [any & 0x8000, !any & 0x8000],
+        _ => [(); 2].map(|_| random.one_of(&COMPARED)),
+    };
+    let immediate = match random.within(0, 1) {
+        _ if operation != Operation::Compare => 0,
+        0 => random.within(0, 31) as u32,
+        _ => random.bits() as u32,
+    };
+    Case {
+        immediate,
+        ..Case::of(operation, [a, b, 0])
+    }
+}
+
+/// Below are operands of what rounds.
+fn not_here() -> ! {
+    unreachable!("`compared` draws the operands")
 }
 
 /// Results at a border: zero, the smallest and largest subnormals and normals, and 1.
@@ -116,6 +153,7 @@ fn aimed(random: &mut Random, operation: Operation) -> [u16; 3] {
             let product = result(random, Operation::Multiply, a, b);
             result(random, Operation::Subtract, target, product)
         }
+        Operation::Minimum | Operation::Maximum | Operation::Compare => not_here(),
     };
     let mut operands = [a, b, 0];
     operands[operation.operand_count() - 1] = random.near(solution);
@@ -125,10 +163,8 @@ fn aimed(random: &mut Random, operation: Operation) -> [u16; 3] {
 /// A result of the second program in any mode.
 fn result(random: &mut Random, operation: Operation, a: u16, b: u16) -> u16 {
     let case = Case {
-        operation,
         mode: random.within(0, 3) as u32,
-        underflow_unmasked: 0,
-        operands: [a, b, 0],
+        ..Case::of(operation, [a, b, 0])
     };
     second::answer(&case).half
 }
@@ -153,6 +189,7 @@ fn close(random: &mut Random, operation: Operation) -> [u16; 3] {
             let b = factor(random, first);
             [a, b, addend(random, a, b)]
         }
+        Operation::Minimum | Operation::Maximum | Operation::Compare => not_here(),
     }
 }
 

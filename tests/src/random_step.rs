@@ -4,9 +4,9 @@
 use crate::assemble::Encoding;
 use crate::corners;
 use crate::machine::{Machine, Step, ALL_MASKED, VECTORS_SIZE};
-use crate::random::Random;
+use crate::random::{self, Random};
 use crate::second::encoding::{decode, Base, Instruction, Second, Source, LIST};
-use crate::second::step::first_address;
+use crate::second::step::{first_address, lanes_on};
 
 /// What a generator of steps draws from.
 pub struct Steps {
@@ -59,6 +59,7 @@ impl Steps {
         if self.random.once_in(8) {
             self.divide_by_zero(&mut step);
         }
+        self.compare_closely(&mut step);
         if self.random.once_in(3) {
             let extra = self.random.within(1, 6);
             let bytes = (0..extra).map(|_| self.random.bits() as u8);
@@ -154,14 +155,11 @@ impl Steps {
 
     /// The bytes of a valid instruction and nothing after them.
     pub fn code(&mut self) -> Vec<u8> {
-        let mut code = self.encoding().bytes();
-        let instruction = decode(&code).unwrap_or_else(|number| panic!("{code:02X?}: {number}"));
-        code.truncate(instruction.length);
-        code
+        self.encoding().exact_bytes()
     }
 
     /// The fields of a valid instruction, with enough bytes behind for any operand. A scalar row
-    /// has no broadcast.
+    /// has no broadcast; one that writes a mask has eight to choose from, and no zeroing.
     fn encoding(&mut self) -> Encoding {
         let random = &mut self.random;
         let listed = &LIST[random.within(0, LIST.len() as i32 - 1) as usize];
@@ -171,17 +169,19 @@ impl Steps {
         let embedded = mode == 3 && extra == 1;
         let mask = random.one_of(&[0, 0, 1, 2, 3, 4, 5, 6, 7]);
         let has_first = listed.takes_first();
+        let may_zero = mask != 0 && !listed.to_mask;
         Encoding {
-            destination: random.bits() as u8,
+            destination: random.bits() as u8 & if listed.to_mask { 7 } else { 31 },
             first: if has_first { random.bits() as u8 } else { 0 },
             x: random.bits() as u8,
             b: random.bits() as u8,
-            zeroing: u8::from(mask != 0) & random.bits() as u8,
+            zeroing: u8::from(may_zero) & random.bits() as u8,
             length: random.within(0, if embedded { 3 } else { 2 }) as u8,
             extra,
             mask,
             rm: random.one_of(&[0, 1, 2, 3, 4, 4, 4, 5, 5, 6, 7]),
             mode,
+            immediate: listed.immediate.then(|| random.bits() as u8),
             rest: self.rest(),
             ..Encoding::registers(listed, 0, 0, 0)
         }
@@ -248,8 +248,8 @@ impl Steps {
                 machine.general[index] = machine.general[index].wrapping_add(step_by(scale));
             }
             (Base::None, None) => {
-                let place = instruction.length - 4;
-                step.code[place..].copy_from_slice(&(target as u32).to_le_bytes());
+                let end = instruction.length - usize::from(instruction.immediate.is_some());
+                step.code[end - 4..end].copy_from_slice(&(target as u32).to_le_bytes());
             }
         }
     }
@@ -262,8 +262,48 @@ impl Steps {
         }
     }
 
+    /// Of a row that compares: equal halves, neighbours and NaNs for a lane that is on, the lowest
+    /// or any.
+    fn compare_closely(&mut self, step: &mut Step) {
+        let Ok(instruction) = decode(&step.code) else {
+            return;
+        };
+        let operation = instruction.listed.operation;
+        let on = lanes_on(&step.machine, &instruction);
+        if operation.rounds() || on.is_empty() {
+            return;
+        }
+        let lane = match self.random.once_in(2) {
+            true => on[0],
+            false => self.random.one_of(&on),
+        };
+        let case = random::case(&mut self.random, operation);
+        for (half, source) in case.operands.iter().zip(instruction.listed.operands) {
+            set_operand(step, &instruction, *source, lane, *half);
+        }
+    }
+
+    /// Of a row that compares: length bits 3, z, a destination above 7, each with nothing behind
+    /// ModRM in half of the cases; or the last byte missing. Most of it is refused.
+    fn spoil_comparing(&mut self, step: &mut Step, instruction: &Instruction) {
+        let (random, code) = (&mut self.random, &mut step.code);
+        match random.within(0, 3) {
+            0 => code[3] |= 0x60,
+            1 => code[3] |= 0x80,
+            2 => code[1] &= !random.one_of(&[0x80, 0x10, 0x90]),
+            _ => return code.truncate(instruction.length - 1),
+        }
+        if random.once_in(2) {
+            code.truncate(6);
+        }
+    }
+
     /// Changes one thing, anywhere.
     fn spoil(&mut self, step: &mut Step) {
+        let instruction = decode(&step.code).expect("a valid instruction");
+        if !instruction.listed.operation.rounds() && self.random.once_in(2) {
+            return self.spoil_comparing(step, &instruction);
+        }
         let random = &mut self.random;
         let place = random.within(0, 5) as usize;
         match random.within(0, 7) {
@@ -306,7 +346,7 @@ pub fn set_operand(
     half: u16,
 ) {
     let register = match (source, instruction.second) {
-        (Source::Destination, _) => instruction.destination,
+        (Source::Destination, _) => instruction.written_vector().expect("a vector register"),
         (Source::First, _) => instruction.first,
         (Source::Second, Second::Register(register)) => register,
         (Source::Second, Second::Memory { address, broadcast }) => {

@@ -1,7 +1,7 @@
 //! What a processor said of a fixed set of steps, in tests/data/processor.txt: lines that begin
 //! with `#` name the processor, the seed and the number of cases, the others are steps with their
-//! outcomes as `step_line` prints them. The file there is of a time when the list had its packed
-//! rows alone; what `witness --record` asks now has scalar rows too.
+//! outcomes as `step_line` prints them. The file there is of a time when the list had its first
+//! eight rows alone; what `witness --record` asks now has scalar rows too, and those that compare.
 
 use crate::assemble::Encoding;
 use crate::corners;
@@ -22,8 +22,9 @@ pub fn path() -> PathBuf {
 
 /// The examples of R12.1 as steps, the first of R12.4, some like the other examples, and cases
 /// around R7.4 and R7.6. Behind them scalar rows: each once, then what R5.10, R3.7, R3.8, R3.13,
-/// R4.10, R5.6 and R7.6 say of them.
-const ROWS: [&str; 60] = [
+/// R4.10, R5.6 and R7.6 say of them. At last rows that compare: each once, then what R6.26, R6.27,
+/// R3.8, R3.15, R5.11, R4.10 and R5.4 say of them.
+const ROWS: [&str; 92] = [
     "step code=62F5744958C2 control=00001F80 k1=1 z1=3C00 z2=BC00",
     "step code=62F5744958C2 control=00003F80 k1=1 z1=3C00 z2=BC00",
     "step code=62F5744958C2 control=00001F80 k1=1 z1=7BFF z2=4C00",
@@ -84,9 +85,41 @@ const ROWS: [&str; 60] = [
     "step code=62F6751899C2 control=00001F80 z0=4000,1111x31 z1=4200,2222x31 z2=4900,3333x31",
     "step code=62F576085EC2 control=00001D80 z0=1111x32 z1=3C00,2222x31",
     "step code=62F5760859C2 control=00001B80 z0=1111x32 z1=E200,2222x31 z2=7800",
+    "step code=62F574085DC2 control=00001F80 z0=1111x32 z1=3C00,4000,BC00 z2=4000,3C00,C000",
+    "step code=62F574085FC2 control=00001F80 z0=1111x32 z1=3C00,4000,7C00 z2=4000,3C00,7BFF",
+    "step code=62F37408C2CA01 control=00001F80 k1=A5A5A5A5A5A5A5A5 z1=3C00,4000 z2=4000,3C00",
+    "step code=62F574085DC2 control=00001F80 z1=0000,8000,0000,8000 z2=8000,0000,0000,8000",
+    "step code=62F574085FC2 control=00001F80 z1=0000,8000,0000,8000 z2=8000,0000,0000,8000",
+    "step code=62F574085DC2 control=00001F80 z1=7E01,3C00,7C01,3C00 z2=3C00,7E01,3C00,7C01",
+    "step code=62F574085FC2 control=00001F80 z1=7E01,7C01,FD02,3C00 z2=7C01,7E01,7C03,FC01",
+    "step code=62F574095DC2 control=00001F80 k1=1 z1=7E01 z2=3C00",
+    "step code=62F574095FC2 control=00001F80 k1=1 z1=0001 z2=7E01",
+    "step code=62F574095DC2 control=00001F80 k1=1 z1=0001 z2=3C00",
+    "step code=62F574095FC2 control=00001E80 k1=1 z0=1111x32 z1=3C00 z2=83FF",
+    "step code=62F574095DC2 control=00001F00 k1=3 z0=1111x32 z1=7E01,0001 z2=3C00,3C00",
+    "step code=62F574185DC2 control=00000000 z1=7C01,0001,4400x30 z2=3C00x2,4200x30",
+    "step code=62F574385FC2 control=00000000 z1=7C01,0001,4400x30 z2=3C00x2,4200x30",
+    "step code=62F574785DC2 control=00000000 z1=7C01,0001,4400x30 z2=3C00,4000,4200x30",
+    "step code=62F574685DC2 control=00001F80 z1=3C00 z2=4000",
+    "step code=62F37478C2CA01 control=00000000 z1=7E00,0001,3C00x30 z2=3C00x2,4000x30",
+    "step code=62F37418C2C201 control=00000000 k0=FFFFFFFFFFFFFFFF z1=7E00,0001,3C00x30 z2=3C00x2",
+    "step code=62F37408C2CA03 control=00000000 z1=7E00,3C00,0001 z2=3C00,7E00,7FFF",
+    "step code=62F37408C2CA13 control=00001F80 z1=7E00,3C00,0001 z2=3C00,7E00,7FFF",
+    "step code=62F37408C2CA13 control=00001F00 k1=FF z1=7E00,3C00,0001 z2=3C00,7E00,7FFF",
+    "step code=62F37408C2CAFB control=00001F80 k1=FF z1=7E00,3C00 z2=3C00,7E00",
+    "step code=62F37408C2CAEF control=00001F80 k1=A500000000000000 z1=0001",
+    "step code=62F37409C2CA0F control=00001F80 k1=FFFFFFFFFFFFFF05",
+    "step code=62F3744AC2FA0D control=00001F80 k2=80000003 k7=FFFFFFFFFFFFFFFF z1=3C00,BC00",
+    "step code=62F37488C2CA00 control=00001F80 k1=FF",
+    "step code=62F37489C2CA00 control=00001F80 k1=FF",
+    "step code=62737408C2CA00 control=00001F80",
+    "step code=62E37408C2CA00 control=00001F80",
+    "step code=62F37409C2500101 control=00001F80 k1=1 r0=FFFFFFFFFFFFFFF1 z1=3C00 memory=AA0040",
+    "step code=62F37459C2500101 control=00001F80 k1=3 r0=FFFFFFFFFFFFFFFF z1=3C00x2 memory=AA0040",
+    "step code=62F37409C215F6FFFFFF01 control=00001F80 k1=1 z1=3C00 memory=AA0040",
 ];
 
-const CASES: usize = 4_800;
+const CASES: usize = 5_700;
 
 /// Asks the processor and writes the file.
 pub fn write(processor: &mut Processor, seed: u64) {
@@ -97,7 +130,9 @@ pub fn write(processor: &mut Processor, seed: u64) {
     );
     for step in steps(seed) {
         let length = runnable(&step, false).expect("an instruction of the list");
-        let outcome = processor.step(&step, length).expect("no relative address");
+        let outcome = processor
+            .step(&step, length)
+            .expect("a pointer that is near");
         text += &format!("{step} => {}\n", shown_outcome(&step, &outcome));
     }
     let path = path();
@@ -162,6 +197,9 @@ impl Cases {
         }
         let mut step = Step::of(encoding.bytes());
         step.machine.control = self.control();
+        if LIST[row].to_mask {
+            step.machine.masks[usize::from(encoding.destination)] = self.random.bits();
+        }
         let instruction = decode(&step.code).expect("a valid instruction");
         if with_memory {
             step.memory = vec![0; self.memory_size(&instruction, lanes)];
@@ -186,7 +224,8 @@ impl Cases {
 
     /// Lanes that have no element, a half for each register, which may be a signalling NaN.
     fn fill_above(&mut self, step: &mut Step, instruction: &Instruction) {
-        for register in [instruction.destination, instruction.first] {
+        let written = instruction.written_vector().expect("a scalar row");
+        for register in [written, instruction.first] {
             let half = self.random.one_of(&self.corners);
             for lane in 1..10 {
                 step.machine.set_lane(register, lane, half);
@@ -194,16 +233,20 @@ impl Cases {
         }
     }
 
-    /// Three registers that are not the same, so that each has its own operands; any masking; 8, 16
-    /// or 32 lanes or, in one case of four, embedded rounding.
+    /// Three registers that are not the same, so that each has its own operands, or two and a mask;
+    /// any masking; 8, 16 or 32 lanes or, in one case of four, embedded rounding or suppression.
     fn encoding(&mut self, row: usize) -> Encoding {
-        let random = &mut self.random;
-        let destination = random.within(0, 31) as u8;
+        let (random, listed) = (&mut self.random, &LIST[row]);
+        let register = random.within(0, 31) as u8;
         let [first, second] = [random.within(1, 15), random.within(16, 31)].map(|n| n as u8);
-        let [first, second] = [destination ^ first, destination ^ second];
-        let first = match LIST[row].takes_first() {
+        let [first, second] = [register ^ first, register ^ second];
+        let first = match listed.takes_first() {
             true => first,
             false => 0,
+        };
+        let destination = match listed.to_mask {
+            true => register & 7,
+            false => register,
         };
         let extra = u8::from(random.once_in(4));
         let mask = random.one_of(&[0, 1, 1, 2, 3, 4, 5, 6, 7]);
@@ -211,8 +254,9 @@ impl Cases {
             extra,
             length: random.within(0, 2 + i32::from(extra)) as u8,
             mask,
-            zeroing: u8::from(mask != 0 && random.once_in(4)),
-            ..Encoding::registers(&LIST[row], destination, first, second)
+            zeroing: u8::from(mask != 0 && !listed.to_mask && random.once_in(4)),
+            immediate: listed.immediate.then(|| random.bits() as u8),
+            ..Encoding::registers(listed, destination, first, second)
         }
     }
 
@@ -252,8 +296,10 @@ impl Cases {
                 2 => [(); 3].map(|_| self.random.half() & 0xFC00 | 0x4000),
                 _ => random::case(&mut self.random, instruction.listed.operation).operands,
             };
-            if !sources.contains(&Source::Destination) && lane < lanes {
-                step.machine.set_lane(instruction.destination, lane, 0x5555);
+            let written = instruction.written_vector();
+            let old = written.filter(|_| !sources.contains(&Source::Destination) && lane < lanes);
+            if let Some(register) = old {
+                step.machine.set_lane(register, lane, 0x5555);
             }
             for (half, source) in operands.iter().zip(sources) {
                 set_operand(step, instruction, *source, lane, *half);
@@ -268,7 +314,7 @@ mod tests {
     use crate::coverage::Coverage;
 
     /// What a processor would be asked, by the second program: all of it can run, and every row and
-    /// what is said of scalar ones is among it.
+    /// what is said of scalar ones and of those that compare is among it.
     #[test]
     fn the_steps_to_record_reach_every_row() {
         let mut coverage = Coverage::none();
@@ -287,6 +333,14 @@ mod tests {
                 "scalar: mode of the control word",
                 "scalar: memory of 2 bytes done, of 1 byte refused, of 0",
                 "scalar: unmasked exception alone",
+                "compare: row, length bits 0, 1, 2",
+                "compare: row, suppression with length bits 0 to 3",
+                "compare: row, register, memory, broadcast",
+                "compare: row, flags: none, IE, DE",
+                "compare: row, the one NaN: first quiet, signalling, second quiet, signalling",
+                "compare: bits 5 to 7 of the immediate",
+                "compare: mask destination",
+                "compare: old mask bits above 31",
             ]
             .contains(&name)
         });

@@ -8,7 +8,7 @@ use crate::random;
 use crate::random_step::{set_operand, Steps};
 use crate::second;
 use crate::second::encoding::{decode, Instruction, LIST};
-use crate::second::step::is_on;
+use crate::second::step::lanes_on;
 
 /// How long the bytes are that the processor is to run; none where it cannot run the step. A
 /// reserved encoding (R4.8, R4.10) is one that the processor refuses, but that APX gives the two
@@ -95,8 +95,9 @@ impl WitnessSteps {
     }
 
     /// Every instruction in every shape, masking and mode, with none, each, all or some of the
-    /// exceptions unmasked: 22,464 places. Of a scalar row the three lengths are to be alike, and
-    /// the shapes of broadcast are reserved (R4.10).
+    /// exceptions unmasked: 26,676 places. Of a scalar row the three lengths are to be alike, and
+    /// the shapes of broadcast are reserved; so are zeroing with VCMPPH and its few destinations
+    /// above k7 (R4.10).
     fn of_grid(&mut self, place: usize) -> Step {
         let (row, place) = (place % LIST.len(), place / LIST.len());
         let (shape, place) = (place % SHAPES, place / SHAPES);
@@ -122,16 +123,25 @@ impl WitnessSteps {
         match random.within(0, 3) {
             0 => self.aim_lanes(&mut step),
             1 => self.aim_one_lane(&mut step),
+            // Equal halves and NaNs are too few among any.
+            2 if !LIST[row].operation.rounds() => self.aim_lanes(&mut step),
             _ => {}
         }
         step
     }
 
     fn encoding(&mut self, row: usize, shape: usize, masking: usize) -> Encoding {
-        let random = &mut self.steps.random;
+        let (random, listed) = (&mut self.steps.random, &LIST[row]);
         let [destination, first, second] = [(); 3].map(|_| random.bits() as u8 & 31);
-        let first = if LIST[row].takes_first() { first } else { 0 };
-        let mut encoding = Encoding::registers(&LIST[row], destination, first, second);
+        let destination = match listed.to_mask && !random.once_in(16) {
+            true => destination & 7,
+            false => destination,
+        };
+        let first = if listed.takes_first() { first } else { 0 };
+        let mut encoding = Encoding::registers(listed, destination, first, second);
+        if listed.immediate {
+            encoding.immediate = Some(random.bits() as u8);
+        }
         if masking > 0 {
             encoding.mask = random.within(1, 7) as u8;
             encoding.zeroing = u8::from(masking == 2);
@@ -193,10 +203,7 @@ impl WitnessSteps {
 
     /// A lane that is on, or any.
     fn lane_that_is_on(&mut self, step: &Step, instruction: &Instruction) -> usize {
-        let lanes = 0..instruction.elements;
-        let on: Vec<usize> = lanes
-            .filter(|&lane| is_on(&step.machine, instruction, lane))
-            .collect();
+        let on = lanes_on(&step.machine, instruction);
         match on[..] {
             [] => 0,
             _ => self.steps.random.one_of(&on),
@@ -213,18 +220,24 @@ mod tests {
     use crate::coverage::Coverage;
 
     /// Twice round the grid, by the second program: every row is done, every answer given that a
-    /// processor has, and scalar rows come in every way that is counted.
+    /// processor has, and scalar rows and those that compare come in every way that is counted of
+    /// whole code.
     #[test]
-    fn the_steps_reach_every_row_and_scalar_form() {
+    fn the_steps_reach_every_row_and_form() {
         let mut steps = WitnessSteps::seeded(1, false);
         let mut coverage = Coverage::none();
-        for _ in 0..4 * 22_464 {
+        for _ in 0..4 * 26_676 {
             let (step, _) = steps.step();
             coverage.see(&step, &second::step(&step));
         }
         coverage.require_answers(&[0, 5, 7, 8]);
+        let of_cut_code = |name: &str| name.starts_with("compare: all but the immediate");
+        let of_predicates = |name: &str| name.starts_with("compare: predicate, and");
+        coverage.require_of(2, of_predicates);
         coverage.require_of(10, |name| {
-            name == "instruction done" || name.starts_with("scalar")
+            let of_rows = name.starts_with("scalar") || name.starts_with("compare");
+            let rare = of_cut_code(name) || of_predicates(name);
+            name == "instruction done" || of_rows && !rare
         });
     }
 }

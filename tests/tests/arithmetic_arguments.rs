@@ -1,4 +1,5 @@
-//! Mode numbers that do not exist (R8.2), and every way to say yes (R8.3).
+//! Mode numbers that do not exist (R8.2), every way to say yes (R8.3), and immediates of which the
+//! low five bits are read (R8.5).
 
 use ridgecrook_tests::case::{Case, Operation, Outcome, UE};
 use ridgecrook_tests::compare::{failure, Comparison};
@@ -58,14 +59,13 @@ fn modes_above_3_are_refused() {
     let mut random = Random::seeded(9);
     let drawn = (0..50).map(|_| (random.bits() as u32).max(4));
     let modes: Vec<u32> = NO_MODES.into_iter().chain(drawn).collect();
-    for operation in Operation::ALL {
+    for operation in Operation::rounding() {
         for operands in corner_operands(operation) {
             for (&mode, underflow_unmasked) in modes.iter().zip([0, 1, 256].into_iter().cycle()) {
                 check_refused(&Case {
-                    operation,
                     mode,
                     underflow_unmasked,
-                    operands,
+                    ..Case::of(operation, operands)
                 });
             }
         }
@@ -101,18 +101,53 @@ fn every_number_but_0_says_yes() {
 fn every_yes_on_corners() {
     let mut comparison = Comparison::of(library::answer, "every yes");
     let mut cases = 0;
-    for operation in Operation::ALL {
+    for operation in Operation::rounding() {
         for operands in corner_operands(operation) {
             for (mode, underflow_unmasked) in (0..4).cycle().zip(YES) {
                 cases += 1;
                 comparison.case(&Case {
-                    operation,
                     mode,
                     underflow_unmasked,
-                    operands,
+                    ..Case::of(operation, operands)
                 });
             }
         }
     }
     comparison.finish(cases);
+}
+
+/// Above the low five bits; most are 0 if they are cut to fewer bits.
+const UNREAD: [u32; 9] = [
+    0x20,
+    0x40,
+    0x80,
+    0xE0,
+    0x0000_0100,
+    0x0001_0000,
+    0x0100_0000,
+    0x8000_0000,
+    0xFFFF_FFE0,
+];
+
+/// A predicate says and raises the same, whatever stands above it, by the library and by the second
+/// program.
+#[test]
+fn five_bits_of_the_immediate_are_read() {
+    let mut random = Random::seeded(10);
+    let drawn = (0..20).map(|_| random.bits() as u32 & !31);
+    let unread: Vec<u32> = UNREAD.into_iter().chain(drawn).collect();
+    for [a, b, _] in corner_operands(Operation::Compare) {
+        for predicate in 0..32 {
+            let plain = Case::comparison(predicate, a, b);
+            let expected = second::answer(&plain);
+            assert_eq!(library::answer(&plain), expected, "{plain}");
+            for upper in &unread {
+                let case = Case::comparison(predicate | upper, a, b);
+                for outcome in [library::answer(&case), second::answer(&case)] {
+                    let agrees = outcome == expected;
+                    assert!(agrees, "{}", failure(&case, &outcome, &expected));
+                }
+            }
+        }
+    }
 }

@@ -7,22 +7,14 @@
 use ridgecrook_tests::case::{Case, Operation, Outcome, DE, IE, OE, PE, UE, ZE};
 use ridgecrook_tests::compare::{setting, Comparison};
 use ridgecrook_tests::random::{self, Random};
+use ridgecrook_tests::second::comparison::order;
 use ridgecrook_tests::{corners, library, second};
-
-fn case(operation: Operation, operands: [u16; 3]) -> Case {
-    Case {
-        operation,
-        mode: 0,
-        underflow_unmasked: 0,
-        operands,
-    }
-}
 
 #[test]
 fn every_root() {
     let mut comparison = Comparison::of(library::answer, "every root");
     for a in 0..=u16::MAX {
-        comparison.in_every_mode(&case(Operation::SquareRoot, [a, 0, 0]));
+        comparison.in_every_mode(&Case::of(Operation::SquareRoot, [a, 0, 0]));
     }
     comparison.finish(65_536 * 8);
 }
@@ -33,7 +25,7 @@ fn pairs_of_corners(operation: Operation) {
     let halves = corners::all();
     for &a in &halves {
         for &b in &halves {
-            comparison.in_every_mode(&case(operation, [a, b, 0]));
+            comparison.in_every_mode(&Case::of(operation, [a, b, 0]));
         }
     }
     comparison.finish((halves.len() * halves.len() * 8) as u64);
@@ -59,6 +51,39 @@ fn divide_on_corners() {
     pairs_of_corners(Operation::Divide);
 }
 
+/// What does not round, with each predicate where it compares.
+fn compared_corners(operation: Operation, predicates: u32) {
+    let name = format!("{} on corners", operation.name());
+    let mut comparison = Comparison::of(library::answer, &name);
+    let halves = corners::all();
+    for &a in &halves {
+        for &b in &halves {
+            for immediate in 0..predicates {
+                comparison.case(&Case {
+                    immediate,
+                    ..Case::of(operation, [a, b, 0])
+                });
+            }
+        }
+    }
+    comparison.finish(halves.len().pow(2) as u64 * u64::from(predicates));
+}
+
+#[test]
+fn minimum_on_corners() {
+    compared_corners(Operation::Minimum, 1);
+}
+
+#[test]
+fn maximum_on_corners() {
+    compared_corners(Operation::Maximum, 1);
+}
+
+#[test]
+fn compare_on_corners() {
+    compared_corners(Operation::Compare, 32);
+}
+
 #[test]
 fn fused_multiply_add_on_corners() {
     let mut comparison = Comparison::of(library::answer, "fused_multiply_add on corners");
@@ -66,7 +91,7 @@ fn fused_multiply_add_on_corners() {
     for &a in &halves {
         for &b in &halves {
             for &c in &halves {
-                comparison.in_every_mode(&case(Operation::FusedMultiplyAdd, [a, b, c]));
+                comparison.in_every_mode(&Case::of(Operation::FusedMultiplyAdd, [a, b, c]));
             }
         }
     }
@@ -113,6 +138,21 @@ fn random_square_root() {
 #[test]
 fn random_fused_multiply_add() {
     random_cases(Operation::FusedMultiplyAdd);
+}
+
+#[test]
+fn random_minimum() {
+    random_cases(Operation::Minimum);
+}
+
+#[test]
+fn random_maximum() {
+    random_cases(Operation::Maximum);
+}
+
+#[test]
+fn random_compare() {
+    random_cases(Operation::Compare);
 }
 
 /// What a case may reach: a name, and whether a case with this outcome does.
@@ -164,7 +204,8 @@ fn is_far(case: &Case) -> bool {
 
 /// The borders that an operation cannot reach. A tiny sum is exact. A quotient of 11-bit numbers
 /// that is below a power of two is below it on 11 bits too. A root is neither tiny nor large, and
-/// its square would have 23 bits if it lay in a middle. Only sums have far operands.
+/// its square would have 23 bits if it lay in a middle. Only sums have far operands. What does not
+/// round has no such borders.
 fn out_of_reach(operation: Operation) -> &'static [&'static str] {
     match operation {
         Operation::Add | Operation::Subtract => {
@@ -189,13 +230,14 @@ fn out_of_reach(operation: Operation) -> &'static [&'static str] {
             "a far operand",
         ],
         Operation::FusedMultiplyAdd => &["ZE"],
+        Operation::Minimum | Operation::Maximum | Operation::Compare => unreachable!(),
     }
 }
 
 /// Random cases are worth their time only where they reach the borders.
 #[test]
 fn random_cases_reach_every_border() {
-    for operation in Operation::ALL {
+    for operation in Operation::rounding() {
         let mut random = Random::seeded(1);
         let mut reached = [0; BORDERS.len()];
         for _ in 0..200_000 {
@@ -213,5 +255,71 @@ fn random_cases_reach_every_border() {
                 assert!(count >= 20, "{} reaches {name}: {count}", operation.name());
             }
         }
+    }
+}
+
+/// Random cases of what does not round reach each relation, both kinds of NaN in either place,
+/// subnormals and each predicate.
+#[test]
+fn random_comparisons_reach_every_relation() {
+    let is_subnormal = |half: &u16| (1..0x0400).contains(&(half & 0x7FFF));
+    let is_quiet = |half: u16| half & 0x7E00 == 0x7E00;
+    for operation in Operation::ALL.into_iter().filter(|o| !o.rounds()) {
+        let mut random = Random::seeded(1);
+        let (mut orders, mut nans, mut subnormal) = ([0; 4], [0; 4], 0);
+        let mut predicates = [0; 32];
+        for _ in 0..200_000 {
+            let case = random::case(&mut random, operation);
+            let [a, b, _] = case.operands;
+            let order = order(a, b);
+            orders[order.map_or(3, |order| (order as i8 + 1) as usize)] += 1;
+            for (place, half) in [a, b].into_iter().enumerate() {
+                if half & 0x7FFF > 0x7C00 {
+                    nans[2 * place + usize::from(is_quiet(half))] += 1;
+                }
+            }
+            let ordered = order.is_some();
+            subnormal += u32::from(ordered && case.used_operands().iter().any(is_subnormal));
+            predicates[case.immediate as usize % 32] += 1;
+        }
+        let predicates = match operation {
+            Operation::Compare => &predicates[..],
+            _ => &[],
+        };
+        let counts = [&orders[..], &nans, &[subnormal], predicates].concat();
+        let reached = counts.iter().all(|&count| count >= 1_000);
+        assert!(reached, "{}: {counts:?}", operation.name());
+    }
+}
+
+/// R6.26, R6.28, of the library alone: one of less, equal, greater and unordered holds; a predicate
+/// and the one 4 further deny each other; 16 further it says the same; minimum and maximum go by
+/// less and greater.
+#[test]
+fn predicates_go_together() {
+    let halves = corners::few();
+    for (a, b) in halves
+        .iter()
+        .flat_map(|&a| halves.iter().map(move |&b| (a, b)))
+    {
+        let holds = |number: u32| library::compare(a, b, number).half == 1;
+        let relations = [17, 0, 30, 3].map(holds);
+        let count = relations.iter().filter(|&&relation| relation).count();
+        assert_eq!(count, 1, "{a:04X} {b:04X}: {relations:?}");
+        for number in (0..32).filter(|number| number & 4 == 0) {
+            assert_ne!(holds(number), holds(number + 4), "{number} {a:04X} {b:04X}");
+        }
+        for number in 0..16 {
+            assert_eq!(
+                holds(number),
+                holds(number + 16),
+                "{number} {a:04X} {b:04X}"
+            );
+        }
+        let [less, _, greater, _] = relations;
+        let minimum = if less { a } else { b };
+        let maximum = if greater { a } else { b };
+        let found = [library::minimum(a, b), library::maximum(a, b)].map(|outcome| outcome.half);
+        assert_eq!(found, [minimum, maximum], "{a:04X} {b:04X}");
     }
 }

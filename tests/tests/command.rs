@@ -25,6 +25,8 @@ const ADD: [u8; 6] = [0x62, 0xF5, 0x74, 0x48, 0x58, 0xC2];
 /// zmm0{k1} = zmm1 + what stands at RAX.
 const ADD_MEMORY: [u8; 6] = [0x62, 0xF5, 0x74, 0x49, 0x58, 0x00];
 const DIVIDE: [u8; 6] = [0x62, 0xF5, 0x74, 0x48, 0x5E, 0xC2];
+/// k1 = zmm1 < zmm2, by LT_OS.
+const COMPARE: [u8; 7] = [0x62, 0xF3, 0x74, 0x48, 0xC2, 0xCA, 0x01];
 
 const BAD: &str = "bad input\n";
 
@@ -93,7 +95,8 @@ fn ends_and_refusals() {
     let stops = [&ADD[..], &[0x90], &ADD].concat();
     let cut = "0 0 00001f80\n6 3 00001f80\nstop 6\n";
     let once = "0 0 00001f80\nstop 6\n";
-    let rows: [(&[u8], &[u8], &str); 10] = [
+    let compared = [&COMPARE[..], &ADD].concat();
+    let rows: [(&[u8], &[u8], &str); 12] = [
         (&[], &[], "stop 0\n"),
         (&[], &[1, 2, 3], "stop 0\n"),
         (&twice, &[], "0 0 00001f80\n6 0 00001f80\nstop 12\n"),
@@ -107,6 +110,9 @@ fn ends_and_refusals() {
         // With mask 0 nothing is read.
         (&ADD_MEMORY, &[], once),
         (&ADD_MEMORY, &[0], once),
+        // An immediate counts, and is missed.
+        (&compared, &[], "0 0 00001f80\n7 0 00001f80\nstop 13\n"),
+        (&COMPARE[..6], &[], "0 3 00001f80\nstop 0\n"),
     ];
     for (number, (code, memory, known)) in rows.into_iter().enumerate() {
         command.prints(number, &input(&Machine::blank(), code, memory), known);
@@ -129,6 +135,32 @@ fn flags_are_printed() {
     // Flags from before are printed too, and cause nothing.
     unmasked.control = 0x003F;
     command.prints(2, &input(&unmasked, &ADD, &[]), "0 0 0000003f\nstop 6\n");
+}
+
+/// A mask that one step writes is the next one's.
+#[test]
+fn a_mask_is_handed_on() {
+    let command = Command::of("a mask is handed on");
+    // 1 < 0 nowhere, 1 < 3 everywhere; then 1 + what stands at RAX, where that is a subnormal.
+    let code = [&COMPARE[..], &ADD_MEMORY].concat();
+    for (number, (half, memory, known)) in [
+        (0, &[][..], "0 0 00001e80\n7 0 00001e80\nstop 13\n"),
+        (0x4200, &[], "0 0 00001e80\n7 7 00001e80\nstop 7\n"),
+        (
+            0x4200,
+            &[0x01, 0x00],
+            "0 0 00001e80\n7 7 00001e80\nstop 7\n",
+        ),
+        (0x4200, &[0x01; 64], "0 0 00001e80\n7 8 00001e82\nstop 7\n"),
+    ]
+    .into_iter()
+    .enumerate()
+    {
+        let mut machine = one_and(half);
+        machine.control = 0x1E80;
+        // Bytes 01 01 are 0101, which is subnormal.
+        command.prints(number, &input(&machine, &code, memory), known);
+    }
 }
 
 /// The pointer of the saved state is not the offset, and wraps.

@@ -3,7 +3,7 @@
 
 use ridgecrook_tests::compare::log;
 use ridgecrook_tests::differences::Difference;
-use ridgecrook_tests::faults::FAULTS;
+use ridgecrook_tests::faults;
 use ridgecrook_tests::machine::{Step, StepOutcome};
 use ridgecrook_tests::recorded::{compare, path};
 use ridgecrook_tests::step_line::shown_outcome;
@@ -99,7 +99,7 @@ fn the_recorded_processor_has_two_stages() {
         ("the early stage by the lane alone", 23),
         ("an early stage by a masked exception", 39),
     ] {
-        let (_, spoil) = FAULTS.iter().find(|fault| fault.0 == name).expect(name);
+        let (_, spoil) = faults::all().find(|fault| fault.0 == name).expect(name);
         let mut refuted = 0;
         for line in cases(&text) {
             let step: Step = line.parse().expect(line);

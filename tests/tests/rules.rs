@@ -74,12 +74,12 @@ where
 
 #[test]
 fn arithmetic_examples() {
-    assert_eq!(check::<Case>(false, library::answer), (27, [18, 0]));
+    assert_eq!(check::<Case>(false, library::answer), (44, [18, 0]));
 }
 
 #[test]
 fn step_examples() {
-    assert_eq!(check::<Step>(true, library::step_outcome), (55, [8, 7]));
+    assert_eq!(check::<Step>(true, library::step_outcome), (85, [12, 10]));
 }
 
 /// What stands behind some text, up to the end of the block of code that it begins.

@@ -1,20 +1,12 @@
-//! What makes no difference to a scalar row: the length bits (R3.7), lanes above 0 (R5.1, R5.10),
-//! memory beside its word (R5.6). Each is said of the library and of the second program by
-//! themselves: two steps that differ in such a thing alone are to end alike.
+//! What makes no difference to a scalar row (`alike.rs` says how it is told): the length bits
+//! (R3.7), lanes above 0 (R5.1, R5.10), memory beside its word (R5.6).
 
+use ridgecrook_tests::alike::{Answers, PROGRAMS};
 use ridgecrook_tests::assemble::Encoding;
 use ridgecrook_tests::library;
 use ridgecrook_tests::machine::{Machine, Step, StepOutcome};
 use ridgecrook_tests::random_step::Steps;
-use ridgecrook_tests::second;
 use ridgecrook_tests::second::encoding::{decode, scalar_rows, Instruction};
-
-type Program = (&'static str, fn(&Step) -> StepOutcome);
-
-const PROGRAMS: [Program; 2] = [
-    ("the second program", second::step),
-    ("the library", library::step_outcome),
-];
 
 /// A register form, one with embedded rounding, or a memory form at RAX and a displacement of one
 /// byte.
@@ -69,23 +61,6 @@ const WORDS: [i32; 10] = [-1, 0, 1, 2, 40, 76, 77, 78, 79, 80];
 fn word_of(step: &Step) -> i64 {
     let displacement = step.code.get(6).map_or(0, |&byte| i64::from(byte as i8));
     step.machine.general[0] as i64 + 2 * displacement
-}
-
-/// The answers that steps got; 0, 7 and 8 are to be among them.
-#[derive(Default)]
-struct Answers {
-    counts: [u32; 9],
-}
-
-impl Answers {
-    fn see(&mut self, outcome: &StepOutcome) {
-        self.counts[outcome.answer.number as usize] += 1;
-    }
-
-    fn require(&self, least: u32) {
-        let reached = |number: &usize| self.counts[*number] >= least;
-        assert!([0, 7, 8].iter().all(reached), "{:?}", self.counts);
-    }
 }
 
 const STEPS: usize = 40 * 72;
@@ -145,13 +120,13 @@ fn lanes_0(machine: &Machine) -> Vec<u16> {
 /// its own, and the rest 0; of any other register, and of any step that is not done, all stay.
 fn check_lanes_above(name: &str, step: &Step, outcome: &StepOutcome, instruction: &Instruction) {
     let (before, after) = (&step.machine, &outcome.after.machine);
-    let fused = instruction.listed.accumulates();
-    let from = match fused {
-        true => instruction.destination,
+    let destination = instruction.written_vector().expect("a scalar row");
+    let from = match instruction.listed.accumulates() {
+        true => destination,
         false => instruction.first,
     };
     for (register, lane) in (0..32 * 32).map(|place| (place / 32, place % 32)) {
-        let written = register == instruction.destination && outcome.answer.number == 0;
+        let written = register == destination && outcome.answer.number == 0;
         let expected = match lane {
             _ if !written => before.lane(register, lane),
             0 => continue,

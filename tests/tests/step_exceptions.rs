@@ -1,13 +1,13 @@
 //! Exceptions (R7.1 to R7.5): lanes that raise every set of flags, under every set of masks, with
-//! flags left from before, in lanes that are on and lanes that are off, by control word and by
-//! embedded rounding.
+//! flags left from before, in lanes that are on and lanes that are off, by control word, by
+//! embedded rounding and by suppression.
 
 use ridgecrook_tests::assemble::Encoding;
 use ridgecrook_tests::case::{DE, IE, OE, PE, UE, ZE};
 use ridgecrook_tests::coverage::Watched;
 use ridgecrook_tests::library;
 use ridgecrook_tests::machine::Step;
-use ridgecrook_tests::second::{self, encoding::LIST};
+use ridgecrook_tests::second::{self, encoding::comparing_rows, encoding::LIST};
 
 /// Dividend, divisor, and the flags of their quotient where all exceptions are masked: each
 /// exception as alone as it comes, and an exact tiny quotient, which has UE where it is unmasked.
@@ -181,9 +181,112 @@ fn embedded_rounding_hides_every_exception() {
     }
 }
 
-/// Each of the sixteen instructions on lanes that raise something, in every mode, with each
+/// Halves to compare, and the flags that they raise: of a minimum or maximum, of a comparison that
+/// does not signal a quiet NaN, and of one that does (R6.27).
+const COMPARED: [(u16, u16, [u8; 3]); 7] = [
+    (0x3C00, 0x4000, [0, 0, 0]),
+    (0x7C01, 0x3C00, [IE, IE, IE]),
+    (0x3C00, 0x7E00, [IE, 0, IE]),
+    (0x0001, 0x3C00, [DE, DE, DE]),
+    (0x3C00, 0x83FF, [DE, DE, DE]),
+    (0x0001, 0x7E00, [IE, 0, IE]),
+    (0xFD00, 0x0001, [IE, IE, IE]),
+];
+
+/// Which row, its immediate, and the column above: VMINPH, VMAXPH, and VCMPPH by LT_OQ and LE_OS.
+const COMPARISONS: [(usize, Option<u8>, usize); 4] = [
+    (0, None, 0),
+    (1, None, 0),
+    (2, Some(17), 1),
+    (2, Some(2), 2),
+];
+
+/// One of them on registers 1 and 2, whose lanes 0 to 6 are those above; `on` goes to k1. It writes
+/// register 0 or k2.
+fn compared(comparison: usize, on: u64, control: u32) -> Step {
+    let (row, immediate, _) = COMPARISONS[comparison];
+    let listed = &comparing_rows()[row];
+    let encoding = Encoding {
+        mask: 1,
+        immediate,
+        ..Encoding::registers(listed, if listed.to_mask { 2 } else { 0 }, 1, 2)
+    };
+    let mut step = Step::of(encoding.bytes());
+    let machine = &mut step.machine;
+    machine.vectors[..64].fill(0x55);
+    for (lane, (a, b, _)) in COMPARED.iter().enumerate() {
+        machine.set_lane(1, lane, *a);
+        machine.set_lane(2, lane, *b);
+    }
+    (machine.masks[1], machine.masks[2]) = (on, 0x55);
+    machine.control = control;
+    step
+}
+
+/// The flags of the lanes that are on, by the table.
+fn raised_by_comparison(comparison: usize, on: u32) -> u8 {
+    let (_, _, column) = COMPARISONS[comparison];
+    let lanes = COMPARED.iter().enumerate();
+    let raised = lanes.filter(|(lane, _)| on >> lane & 1 == 1);
+    raised.fold(0, |all, (_, (_, _, flags))| all | flags[column])
+}
+
+/// R6.27, R7.4, of both programs, from what the lanes are said to raise: IE and DE are early, so
+/// both are set, with 8 as with 0, whichever stops it. With 8 nothing else changes. The flags of
+/// later stages never come, whatever is unmasked.
+#[test]
+fn comparisons_raise_what_they_say() {
+    for place in 0..4 * 128 * 64_u32 {
+        let (comparison, on, masks) = (place as usize % 4, place / 4 % 128, place / 512);
+        let raised = raised_by_comparison(comparison, on);
+        let stops = raised & !(masks as u8) != 0;
+        let step = compared(comparison, u64::from(on), masks << 7);
+        for outcome in [second::step(&step), library::step_outcome(&step)] {
+            let machine = &outcome.after.machine;
+            let shown = (outcome.answer.number, machine.control);
+            let number = if stops { 8 } else { 0 };
+            assert_eq!(shown, (number, masks << 7 | u32::from(raised)), "{step}");
+            if stops {
+                let kept = (&machine.vectors, machine.masks, machine.pointer);
+                let before = &step.machine;
+                let all = (&before.vectors, before.masks, before.pointer);
+                assert_eq!(kept, all, "{step}");
+            }
+        }
+    }
+}
+
+/// R3.8, R7.5: with b in register form and any length bits, whatever the control word unmasks and
+/// holds, the same is written as with every exception masked, and the control word stays.
+#[test]
+fn suppression_hides_every_exception() {
+    for place in 0..4 * 4 * 64 * 16_u32 {
+        let (comparison, length) = (place as usize % 4, (place / 4 % 4) as u8);
+        let (masks, on) = (place / 16 % 64, u64::from(place / 1024 * 0x0888_8889));
+        let control = (masks << 7) | (place % 61);
+        let plain = compared(comparison, on, 0x1F80);
+        let mut step = compared(comparison, on, control);
+        step.code[3] = step.code[3] & !0x60 | 0x10 | length << 5;
+        for program in [second::step, library::step_outcome] {
+            let (expected, outcome) = (program(&plain), program(&step));
+            let [expected, found] = [expected, outcome].map(|outcome| {
+                let machine = outcome.after.machine;
+                (
+                    outcome.answer,
+                    machine.vectors,
+                    machine.masks,
+                    machine.control,
+                )
+            });
+            let expected = (expected.0, expected.1, expected.2, control);
+            assert_eq!(found, expected, "{step}");
+        }
+    }
+}
+
+/// Each of the nineteen instructions on lanes that raise something, in every mode, with each
 /// exception unmasked alone, and none, and all. Of a scalar row lane 2 has no element, whatever its
-/// mask bit says.
+/// mask bit says. VCMPPH writes k3.
 #[test]
 fn every_instruction_and_mode() {
     let mut watched = Watched::of(library::step_outcome, "exceptions of each instruction");
@@ -191,12 +294,14 @@ fn every_instruction_and_mode() {
         0x0000, 0x8000, 0x0001, 0x03FF, 0x0400, 0x3800, 0x3C00, 0xBC01, 0x7BFF, 0xFBFF, 0x7C00,
         0xFC00, 0x7C01, 0x7E00, 0x1FE0, 0x2010,
     ];
-    for place in 0..16 * 4 * 8 * 256_usize {
-        let (row, mode, unmasked) = (place % 16, place / 16 % 4, place / 64 % 8);
-        let (a, b) = (halves[place / 512 % 16], halves[place / 8192 % 16]);
+    for place in 0..19 * 4 * 8 * 256_usize {
+        let (row, place) = (place % 19, place / 19);
+        let (mode, unmasked) = (place % 4, place / 4 % 8);
+        let (a, b) = (halves[place / 32 % 16], halves[place / 512]);
         let first = u8::from(LIST[row].takes_first());
         let mut encoding = Encoding::registers(&LIST[row], 3, first, 2);
         (encoding.mask, encoding.length) = (5, 0);
+        encoding.immediate = encoding.immediate.map(|_| (a ^ b) as u8);
         let mut step = Step::of(encoding.bytes());
         let machine = &mut step.machine;
         // Bit 6 stands for none, 7 for all.
@@ -211,5 +316,5 @@ fn every_instruction_and_mode() {
         }
         watched.step(&step);
     }
-    watched.finish(131_072, &[0, 8]);
+    watched.finish(155_648, &[0, 8]);
 }

@@ -32,22 +32,22 @@ fn random_steps_reach_everything_and_agree() {
     }
 }
 
-/// What the library says to the first 11 bytes of a step's code, as if it had been lent the whole.
-fn by_eleven_bytes(step: &Step) -> StepOutcome {
+/// What the library says to the first 12 bytes of a step's code, as if it had been lent the whole.
+fn by_twelve_bytes(step: &Step) -> StepOutcome {
     let mut cut = step.clone();
-    cut.code.truncate(11);
+    cut.code.truncate(12);
     let mut outcome = library::step_outcome(&cut);
     outcome.after.code = step.code.clone();
     outcome
 }
 
-/// Nothing behind the first 11 bytes counts, whether the code is refused or not (R4.18). A step
+/// Nothing behind the first 12 bytes counts, whether the code is refused or not (R4.18). A step
 /// that differs is shown with its whole code; cut it to try it again.
 #[test]
-fn eleven_bytes_are_enough() {
+fn twelve_bytes_are_enough() {
     let seed = setting("RIDGECROOK_SEED", SEED);
     let count = setting("RIDGECROOK_STEPS", 40_000);
-    let mut watched = Watched::of(by_eleven_bytes, &format!("11 bytes of code, seed {seed}"));
+    let mut watched = Watched::of(by_twelve_bytes, &format!("12 bytes of code, seed {seed}"));
     let mut steps = Steps::seeded(seed);
     for _ in 0..count {
         let mut step = steps.step();

@@ -1,5 +1,5 @@
-//! Refusals (R4.2 to R4.14): each alone, each before every later one, of a packed row and of a
-//! scalar one; every cut, every opcode, map, prefix and W.
+//! Refusals (R4.2 to R4.14): each alone, each before every later one, of a packed row, of a scalar
+//! one and of the one that writes a mask; every cut, every opcode, map, prefix and W.
 //!
 //! No step gives answer 6 (R4.12): `step_random` fails if it is ever seen.
 
@@ -10,7 +10,7 @@ use ridgecrook_tests::library;
 use ridgecrook_tests::machine::{Answer, Machine, Step, StepOutcome};
 use ridgecrook_tests::second::{
     self,
-    encoding::{scalar_rows, Listed, LIST, PACKED},
+    encoding::{comparing_rows, scalar_rows, Listed, LIST, PACKED},
 };
 
 /// Something that calls for a refusal. The bytes are cut after all else is done to them.
@@ -20,8 +20,8 @@ struct Condition {
     /// How many of the bytes are left, where that is the condition.
     kept: Option<usize>,
     spoil: fn(&mut Step),
-    /// Whether it is one of a packed row, and of a scalar one.
-    of: [bool; 2],
+    /// Whether it is one of each of `ROWS`.
+    of: [bool; 3],
 }
 
 const fn cut(name: &'static str, kept: usize) -> Condition {
@@ -30,7 +30,7 @@ const fn cut(name: &'static str, kept: usize) -> Condition {
         number: 3,
         kept: Some(kept),
         spoil: |_| (),
-        of: [true, true],
+        of: [true; 3],
     }
 }
 
@@ -40,21 +40,35 @@ const fn spoiled(name: &'static str, number: u32, spoil: fn(&mut Step)) -> Condi
         number,
         kept: None,
         spoil,
-        of: [true, true],
+        of: [true; 3],
     }
 }
 
 impl Condition {
     const fn of_packed(self) -> Condition {
         Condition {
-            of: [true, false],
+            of: [true, false, false],
             ..self
         }
     }
 
     const fn of_scalar(self) -> Condition {
         Condition {
-            of: [false, true],
+            of: [false, true, false],
+            ..self
+        }
+    }
+
+    const fn of_mask(self) -> Condition {
+        Condition {
+            of: [false, false, true],
+            ..self
+        }
+    }
+
+    const fn of_many_lanes(self) -> Condition {
+        Condition {
+            of: [true, false, true],
             ..self
         }
     }
@@ -109,14 +123,22 @@ const CONDITIONS: [&[Condition]; 11] = [
         })
         .of_packed(),
         spoiled("b in memory form", 5, |step| step.code[3] |= 0x10).of_scalar(),
+        spoiled("zeroing with a mask", 5, |step| {
+            step.code[3] |= 0x81;
+            step.machine.masks[1] = u64::MAX;
+        })
+        .of_mask(),
+        spoiled("R", 5, |step| step.code[1] &= !0x80).of_mask(),
+        spoiled("R'", 5, |step| step.code[1] &= !0x10).of_mask(),
     ],
     &[
         cut("no SIB", 6),
         cut("no displacement", 7),
         cut("half a displacement", 10),
+        cut("no immediate", 11).of_mask(),
     ],
     &[
-        spoiled("lane 1 outside memory", 7, |step| step.memory.truncate(2)).of_packed(),
+        spoiled("lane 1 outside memory", 7, |step| step.memory.truncate(2)).of_many_lanes(),
         spoiled("memory of one byte", 7, |step| step.memory.truncate(1)),
         spoiled("memory of no bytes", 7, |step| step.memory.clear()),
     ],
@@ -126,18 +148,21 @@ const CONDITIONS: [&[Condition]; 11] = [
     })],
 ];
 
-/// VADDPH and VADDSH.
-const ROWS: [&Listed; 2] = [&LIST[0], &LIST[PACKED]];
+/// VADDPH, VADDSH and VCMPPH.
+const ROWS: [&Listed; 3] = [&LIST[0], &LIST[PACKED], &LIST[LIST.len() - 1]];
 
 /// One of them, by its number, with the length bits of 32 lanes, no mask, at SIB and 32-bit
-/// displacement (11 bytes). Lane 0 of the r/m operand is a signalling NaN, which is invalid by
-/// addition and by root. The scalar row has no memory but this word.
+/// displacement (11 bytes, or 12 with EQ_OQ as immediate). Lane 0 of the r/m operand is a
+/// signalling NaN, which is invalid by addition, root and comparison. The scalar row has no memory
+/// but this word.
 fn good(row: usize) -> Step {
     let encoding = Encoding::memory(ROWS[row], 0, 4, &[0x25, 0, 0, 0, 0]);
-    let mut memory = vec![0; [64, 2][row]];
+    let mut memory = vec![0; [64, 2, 64][row]];
     memory[..2].copy_from_slice(&0x7C01_u16.to_le_bytes());
+    let mut machine = Machine::blank();
+    machine.masks[0] = 0xA5;
     Step {
-        machine: Machine::blank(),
+        machine,
         code: encoding.bytes(),
         memory,
     }
@@ -176,11 +201,8 @@ fn of_row(group: &'static [Condition], row: usize) -> impl Iterator<Item = &'sta
 
 #[test]
 fn each_condition_is_refused() {
-    let done = Answer {
-        number: 0,
-        length: 11,
-    };
-    for row in 0..ROWS.len() {
+    for (row, length) in [11, 11, 12].into_iter().enumerate() {
+        let done = Answer { number: 0, length };
         assert_eq!(second::step(&good(row)).answer, done);
         assert_eq!(library::step_outcome(&good(row)).answer, done);
         for condition in CONDITIONS.iter().flat_map(|group| of_row(group, row)) {
@@ -195,9 +217,10 @@ fn each_condition_is_refused() {
 fn can_meet(earlier: &Condition, later: &Condition) -> bool {
     let place = match later.name {
         "byte 0" => 0,
-        "byte 1 bit 3" | "an unlisted map" => 1,
+        "byte 1 bit 3" | "an unlisted map" | "R" | "R'" => 1,
         "byte 2 bit 2" | "an unlisted prefix" | "W" => 2,
         "length bits 11" | "zeroing without a mask" | "b in memory form" => 3,
+        "zeroing with a mask" => 3,
         "an unlisted opcode" | "a first source in V'" | "a first source in vvvv" => 4,
         _ => return true,
     };
@@ -224,16 +247,16 @@ fn answer_the_earlier(row: usize) -> u32 {
 /// Whichever two they are; neighbours are among them.
 #[test]
 fn the_earlier_of_two_is_answered() {
-    let pairs = [0, 1].map(answer_the_earlier);
-    assert_eq!(pairs, [277, 237], "the pairs that can meet");
+    let pairs = [0, 1, 2].map(answer_the_earlier);
+    assert_eq!(pairs, [277, 237, 323], "the pairs that can meet");
 }
 
 /// All of them from some place on, the first of each group or the last, without later cuts, which
 /// would take away what is spoiled.
 #[test]
 fn the_first_of_many_is_answered() {
-    for i in 0..4 * CONDITIONS.len() {
-        let (row, last, place) = (i % 2, i / 2 % 2 == 1, i / 4);
+    for i in 0..6 * CONDITIONS.len() {
+        let (row, last, place) = (i % 3, i / 3 % 2 == 1, i / 6);
         let of_group = |group: &&'static [Condition]| match last {
             true => of_row(group, row).last(),
             false => of_row(group, row).next(),
@@ -271,6 +294,57 @@ fn every_scalar_row_with_b_in_memory() {
     }
 }
 
+/// R4.10: z with VCMPPH and its destinations above 7, with any length bits, b and aaa, at any mod,
+/// with all bytes and with none behind ModRM, with memory and without.
+#[test]
+fn every_reserved_mask_destination() {
+    let listed = &comparing_rows()[2];
+    for place in 0..4 * 2 * 8 * 4 * 7_u32 {
+        let wrong = (place / 256 + 1) as u8;
+        let encoding = Encoding {
+            length: place as u8 & 3,
+            extra: (place >> 2) as u8 & 1,
+            mask: (place >> 3) as u8 & 7,
+            destination: wrong << 3 & 0x18 | place as u8 & 7,
+            zeroing: wrong >> 2,
+            ..Encoding::memory(listed, (place >> 6) as u8 & 3, place as u8 & 7, &[0; 5])
+        };
+        let mut step = Step::of(encoding.bytes());
+        step.machine.masks = [1; 8];
+        check("z or a destination above 7, no memory", &step, 5);
+        step.memory = vec![0x3C; 64];
+        check("z or a destination above 7", &step, 5);
+        step.code.truncate(6);
+        check("z or a destination above 7, cut", &step, 5);
+    }
+}
+
+/// R4.11: VCMPPH at every mod and rm without its immediate, with memory or none, is cut short, and
+/// with it is done or needs memory.
+#[test]
+fn every_missing_immediate() {
+    let listed = &comparing_rows()[2];
+    for place in 0..4 * 8 * 2 * 4_u32 {
+        let (mode, rm) = (place as u8 & 3, (place >> 2) as u8 & 7);
+        let encoding = Encoding {
+            extra: (place >> 5) as u8 & 1,
+            length: 2,
+            mask: (place >> 6) as u8,
+            ..Encoding::memory(listed, mode, rm, &[0x24, 0, 0, 0, 0])
+        };
+        let mut step = Step::of(encoding.exact_bytes());
+        step.machine.masks = [1; 8];
+        for outcome in [library::step_outcome(&step), second::step(&step)] {
+            let number = if mode == 3 { 0 } else { 7 };
+            assert_eq!(outcome.answer.number, number, "{step}");
+        }
+        step.code.pop();
+        check("no immediate, no memory", &step, 3);
+        step.memory = vec![0x3C; 256];
+        check("no immediate", &step, 3);
+    }
+}
+
 /// Every operand form, each with all its bytes, fewer, and more, which have no effect (R4.18).
 #[test]
 fn every_cut() {
@@ -283,14 +357,14 @@ fn every_cut() {
                 encoding.destination = modrm >> 3 & 7;
                 let mut step = Step::of(encoding.bytes());
                 step.memory = vec![0x3C; 300];
-                // 17 bytes down to none: bytes after the instruction, then each cut of it.
+                // 17 or 18 bytes down to none: bytes after the instruction, then each cut of it.
                 while step.code.pop().is_some() {
                     watched.step(&step);
                 }
             }
         }
     }
-    watched.finish(294_912, &[0, 3, 7]);
+    watched.finish(1024 * (18 * 18 + 19), &[0, 3, 7]);
 }
 
 /// Every opcode in every map, with every prefix and W, in register and memory form.
@@ -304,6 +378,8 @@ fn every_opcode() {
             map: (place >> 8 & 7) as u8,
             prefix: (place >> 11 & 3) as u8,
             w: (place >> 13 & 1) as u8,
+            // A byte behind is an immediate, or has no effect.
+            immediate: Some(0),
             ..Encoding::registers(&LIST[0], 1, 0, 3)
         };
         for mode in [0, 3] {
@@ -319,7 +395,7 @@ fn every_opcode() {
         }
     }
     watched.finish(32_768, &[0, 4]);
-    assert_eq!(done, 32, "sixteen instructions, two forms");
+    assert_eq!(done, 38, "nineteen instructions, two forms");
 }
 
 /// Each of the first four bytes with every value, in register, memory and broadcast form, of which
@@ -342,7 +418,7 @@ fn every_prefix_byte() {
             }
         }
     }
-    watched.finish(65_536, &[0, 4, 5, 7]);
+    watched.finish(77_824, &[0, 4, 5, 7]);
 }
 
 /// Vector files of other sizes and control words with any high bit are refused, and left alone.

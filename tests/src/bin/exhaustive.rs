@@ -1,8 +1,11 @@
-//! Every pair of halves: add, subtract, multiply and divide in the four modes, the library held
-//! against the processor. `cargo run --release --bin exhaustive -- [options]`
+//! Every pair of halves: add, subtract, multiply and divide in the four modes, and without a mode
+//! minimum, maximum and the comparisons LE_OQ and NGE_UQ, of which unordered halves pass the second
+//! alone. The library is held against the processor.
+//! `cargo run --release --bin exhaustive -- [options]`
 //!
-//!   --operation NAME  only this one (add, subtract, multiply, divide)
-//!   --mode N          only this mode, 0 to 3
+//!   --operation NAME  only this one (add, subtract, multiply, divide, minimum, maximum, le_oq,
+//!                     nge_uq)
+//!   --mode N          only this mode, 0 to 3, of those that have one
 //!   --share N         only one block of 32 pairs in N, for a trial
 //!
 //! Compared are the half of every pair, the flags of each 32 lanes together, and in one block of 64
@@ -13,22 +16,28 @@
 //! target/exhaustive/finished.txt, for the library that was linked, and passed over from then on.
 
 use ridgecrook_tests::case::{Case, Operation, Outcome};
-use ridgecrook_tests::library::LIBRARY;
 use ridgecrook_tests::machine::ALL_MASKED;
 use ridgecrook_tests::processor::pairs::{on_pairs, Lanes, OnPairs, Pairs};
 use ridgecrook_tests::processor::{missing, model};
-use ridgecrook_tests::second;
+use ridgecrook_tests::{library, second};
 use std::io::Write;
 use std::path::PathBuf;
 use std::process::exit;
 use std::sync::atomic::{AtomicU64, Ordering};
 use std::time::{Duration, Instant};
 
-const OPERATIONS: [Operation; 4] = [
-    Operation::Add,
-    Operation::Subtract,
-    Operation::Multiply,
-    Operation::Divide,
+/// What is tried: its name, the operation, and the immediate of a comparison.
+type Tried = (&'static str, Operation, u32);
+
+const TRIED: [Tried; 8] = [
+    ("add", Operation::Add, 0),
+    ("subtract", Operation::Subtract, 0),
+    ("multiply", Operation::Multiply, 0),
+    ("divide", Operation::Divide, 0),
+    ("minimum", Operation::Minimum, 0),
+    ("maximum", Operation::Maximum, 0),
+    ("le_oq", Operation::Compare, 18),
+    ("nge_uq", Operation::Compare, 25),
 ];
 
 /// Values of the first operand, and blocks of 32 values of the second.
@@ -86,16 +95,16 @@ fn threads() -> usize {
 }
 
 struct Options {
-    operations: Vec<Operation>,
-    modes: Vec<u32>,
+    tried: Vec<Tried>,
+    mode: Option<u32>,
     share: u64,
 }
 
 impl Options {
     fn read() -> Options {
         let mut options = Options {
-            operations: OPERATIONS.to_vec(),
-            modes: (0..4).collect(),
+            tried: TRIED.to_vec(),
+            mode: None,
             share: 1,
         };
         let mut words = std::env::args().skip(1);
@@ -103,7 +112,7 @@ impl Options {
             let value = words.next().unwrap_or_default();
             let taken = match word.as_str() {
                 "--operation" => options.take_operation(&value),
-                "--mode" => number(&value, 3).map(|mode| options.modes = vec![mode as u32]),
+                "--mode" => number(&value, 3).map(|mode| options.mode = Some(mode as u32)),
                 "--share" => number(&value, BLOCKS).map(|share| options.share = share.max(1)),
                 _ => None,
             };
@@ -112,26 +121,50 @@ impl Options {
                 exit(2);
             }
         }
+        if options
+            .tried
+            .iter()
+            .all(|tried| options.modes(tried.1).is_empty())
+        {
+            eprintln!("{} has no mode", options.tried[0].0);
+            exit(2);
+        }
         options
     }
 
     fn take_operation(&mut self, name: &str) -> Option<()> {
-        let found = OPERATIONS.into_iter().find(|o| o.name() == name)?;
-        self.operations = vec![found];
+        let found = TRIED.into_iter().find(|tried| tried.0 == name)?;
+        self.tried = vec![found];
         Some(())
+    }
+
+    /// The modes of an operation: one, which counts for nothing, where it does not round; none at
+    /// all, where a mode is asked for.
+    fn modes(&self, operation: Operation) -> Vec<u32> {
+        match (operation.rounds(), self.mode) {
+            (true, None) => (0..4).collect(),
+            (true, Some(mode)) => vec![mode],
+            (false, None) => vec![0],
+            (false, Some(_)) => Vec::new(),
+        }
     }
 
     /// What is to do; what was finished before is left out with a line.
     fn tasks(&self, share: u64, by_processor: bool) -> Vec<Task> {
         let finished = std::fs::read_to_string(notes()).unwrap_or_default();
         let mut tasks = Vec::new();
-        for &operation in &self.operations {
-            for &mode in &self.modes {
-                let task = Task {
-                    operation,
+        for &(name, operation, immediate) in &self.tried {
+            for mode in self.modes(operation) {
+                let case = Case {
                     mode,
+                    immediate,
+                    ..Case::of(operation, [0; 3])
+                };
+                let task = Task {
+                    name,
+                    case,
                     share,
-                    processor: by_processor.then(|| on_pairs(operation)),
+                    processor: by_processor.then(|| on_pairs(&case)),
                 };
                 let known = format!("{} library {LINKED} ", task.name());
                 if share == 1 && finished.lines().any(|line| line.starts_with(&known)) {
@@ -166,17 +199,20 @@ fn note(task: &Task, witness: &str) {
     writeln!(file.expect("the file of what is finished"), "{line}").expect("a line is written");
 }
 
-/// An operation in a mode.
+/// An operation in a mode, if it has one: a case but for its operands.
 struct Task {
-    operation: Operation,
-    mode: u32,
+    name: &'static str,
+    case: Case,
     share: u64,
     processor: Option<OnPairs>,
 }
 
 impl Task {
     fn name(&self) -> String {
-        format!("{} m{}", self.operation.name(), self.mode)
+        match self.case.operation.rounds() {
+            true => format!("{} m{}", self.name, self.case.mode),
+            false => self.name.to_string(),
+        }
     }
 
     /// With a share, about so many.
@@ -227,10 +263,8 @@ impl Task {
 
     fn case(&self, a: u16, b: u16) -> Case {
         Case {
-            operation: self.operation,
-            mode: self.mode,
-            underflow_unmasked: 0,
             operands: [a, b, 0],
+            ..self.case
         }
     }
 
@@ -245,21 +279,31 @@ impl Task {
     }
 
     fn control(&self) -> u32 {
-        ALL_MASKED | self.mode << 13
+        ALL_MASKED | self.case.mode << 13
     }
 
     /// What the library says of a block, and the flags of each lane.
     #[inline(always)]
     fn library(&self, block: &Block) -> (Pairs, [u8; 32]) {
-        let function = match self.operation {
-            Operation::Add => LIBRARY.add,
-            Operation::Subtract => LIBRARY.subtract,
-            Operation::Multiply => LIBRARY.multiply,
-            _ => LIBRARY.divide,
-        };
+        let Case {
+            mode, immediate, ..
+        } = self.case;
+        match self.case.operation {
+            Operation::Add => self.each(block, |a, b| library::add(a, b, mode, 0)),
+            Operation::Subtract => self.each(block, |a, b| library::subtract(a, b, mode, 0)),
+            Operation::Multiply => self.each(block, |a, b| library::multiply(a, b, mode, 0)),
+            Operation::Divide => self.each(block, |a, b| library::divide(a, b, mode, 0)),
+            Operation::Minimum => self.each(block, library::minimum),
+            Operation::Maximum => self.each(block, library::maximum),
+            _ => self.each(block, |a, b| library::compare(a, b, immediate)),
+        }
+    }
+
+    #[inline(always)]
+    fn each(&self, block: &Block, function: impl Fn(u16, u16) -> Outcome) -> (Pairs, [u8; 32]) {
         let (mut halves, mut flags, mut all) = ([0; 32], [0; 32], 0);
         for lane in 0..32 {
-            let outcome = function(block.a[lane], block.b[lane], self.mode, 0);
+            let outcome = function(block.a[lane], block.b[lane]);
             // An answer other than 0 would show in the flags.
             halves[lane] = outcome.half;
             flags[lane] = outcome.flags | outcome.number << 6;

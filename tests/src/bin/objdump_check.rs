@@ -1,13 +1,17 @@
-//! Holds the second program's decoder against GNU objdump on random valid instructions: names,
-//! operands, masks, rounding and lengths; and, of every row with every byte 3, whether it is
-//! reserved (R4.10). `cargo run --release --bin objdump_check`. The last line is `N passed, M
-//! failed`; where there is no objdump that knows AVX512-FP16, a line says that the check was
-//! skipped, and N is 0.
+//! Holds the second program's decoder against GNU objdump on random valid instructions, and on
+//! VCMPPH with every immediate: names, those of predicates too, operands, masks, rounding,
+//! suppression, immediates and lengths; and, of every row with every byte 3, and of VCMPPH with
+//! every destination, whether it is reserved (R4.10). `cargo run --release --bin objdump_check`.
+//! The last line is `N passed, M failed`; where there is no objdump that knows AVX512-FP16, a line
+//! says that the check was skipped, and N is 0.
 
 use ridgecrook_tests::assemble::Encoding;
 use ridgecrook_tests::compare::setting;
 use ridgecrook_tests::random_step::Steps;
-use ridgecrook_tests::second::encoding::{decode, Address, Base, Instruction, Second, LIST};
+use ridgecrook_tests::second::comparison::predicate_name;
+use ridgecrook_tests::second::encoding::{
+    decode, Address, Base, Destination, Instruction, Second, LIST,
+};
 use std::process::{exit, Command};
 
 const GENERAL: [&str; 16] = [
@@ -25,7 +29,8 @@ fn main() {
     let seed = setting("RIDGECROOK_SEED", 7);
     let count = setting("RIDGECROOK_STEPS", 5_000);
     let mut steps = Steps::seeded(seed);
-    let codes: Vec<Vec<u8>> = (0..count).map(|_| steps.code()).collect();
+    let random = (0..count).map(|_| steps.code());
+    let codes: Vec<Vec<u8>> = random.chain(every_immediate()).collect();
     let lines = disassembled(&codes.concat());
     let mut failed = 0;
     let mut at = 0;
@@ -44,7 +49,7 @@ fn main() {
     let (tried, wrong) = reserved();
     println!(
         "{} passed, {} failed",
-        count + tried - failed - wrong,
+        codes.len() as u64 + tried - failed - wrong,
         failed + wrong
     );
     if failed + wrong > 0 || lines.len() != codes.len() {
@@ -52,21 +57,24 @@ fn main() {
     }
 }
 
-/// Every row with every byte 3, in register and in memory form: how many, and of how many objdump
-/// and the decoder differ over whether they are reserved. Each stands 16 bytes behind the one
-/// before, with NOPs between, so that what objdump makes of a bad one ends before the next. V' of a
-/// row without a first source is left out: objdump does not look at it.
+/// VCMPPH with every immediate.
+fn every_immediate() -> impl Iterator<Item = Vec<u8>> {
+    let row = &LIST[LIST.len() - 1];
+    (0..=255).map(|immediate| {
+        let encoding = Encoding {
+            immediate: Some(immediate),
+            ..Encoding::registers(row, 3, 1, 2)
+        };
+        encoding.bytes()
+    })
+}
+
+/// Every row with every byte 3, and VCMPPH with every destination, in register and in memory form:
+/// how many, and of how many objdump and the decoder differ over whether they are reserved. Each
+/// stands 16 bytes behind the one before, with NOPs between, so that what objdump makes of a bad
+/// one ends before the next.
 fn reserved() -> (u64, u64) {
-    let mut codes = Vec::new();
-    for place in 0..LIST.len() * 512 {
-        let (row, modrm) = (&LIST[place / 512], [0xC2, 0x00][place / 256 % 2]);
-        let mut code = Encoding::registers(row, 0, 0, 2).bytes();
-        (code[3], code[5]) = (place as u8, modrm);
-        code.resize(16, 0x90);
-        if row.takes_first() || code[3] & 8 != 0 {
-            codes.push(code);
-        }
-    }
+    let codes = reserved_or_not();
     let mut lines = disassembled(&codes.concat()).into_iter();
     let mut wrong = 0;
     for (place, code) in codes.iter().enumerate() {
@@ -75,10 +83,34 @@ fn reserved() -> (u64, u64) {
         let is_bad = |line: &String| line.contains("(bad)") || line.contains("{bad}");
         if line.as_ref().map(is_bad) != Some(decode(code).err() == Some(5)) {
             wrong += 1;
-            println!("{:02X?} => {line:?}", &code[..6]);
+            println!("{:02X?} => {line:?}", &code[..7]);
         }
     }
     (codes.len() as u64, wrong)
+}
+
+/// Two things are left out that objdump does not look at: V' of a row without a first source, and z
+/// of VCMPPH with a mask.
+fn reserved_or_not() -> Vec<Vec<u8>> {
+    let mut codes = Vec::new();
+    for place in 0..LIST.len() * 512 {
+        let (row, modrm) = (&LIST[place / 512], [0xC2, 0x00][place / 256 % 2]);
+        let mut code = Encoding::registers(row, 0, 0, 2).bytes();
+        (code[3], code[5]) = (place as u8, modrm);
+        let needless = !row.takes_first() && code[3] & 8 == 0;
+        let zeroes_mask = row.to_mask && code[3] & 0x80 != 0 && code[3] & 7 != 0;
+        if !needless && !zeroes_mask {
+            codes.push(code);
+        }
+    }
+    for place in 0..64 {
+        let row = &LIST[LIST.len() - 1];
+        let mut encoding = Encoding::registers(row, place & 31, 0, 2);
+        encoding.mode = 3 * (place >> 5);
+        codes.push(encoding.bytes());
+    }
+    codes.iter_mut().for_each(|code| code.resize(16, 0x90));
+    codes
 }
 
 /// What objdump writes of some bytes: `address: text`, a line for each instruction; nothing where
@@ -114,13 +146,15 @@ fn instruction_text(line: &str) -> Option<String> {
 /// objdump writes an index that is none as `riz` and a scale, where the encoding has room for one;
 /// the same without.
 fn without_riz(text: &str) -> String {
-    if let Some((before, sum)) = text.split_once("[riz*") {
-        let (minus, digits) = (sum[1..].starts_with('-'), sum[4..].trim_end_matches(']'));
-        let magnitude = i64::from_str_radix(digits, 16).expect(text);
-        return format!(
-            "{before}ds:{:#x}",
-            if minus { -magnitude } else { magnitude }
-        );
+    if let Some((before, rest)) = text.split_once("[riz*") {
+        let (sum, behind) = rest.split_once(']').expect(text);
+        let magnitude = i64::from_str_radix(&sum[4..], 16).expect(text);
+        let sum = if sum[1..].starts_with('-') {
+            -magnitude
+        } else {
+            magnitude
+        };
+        return format!("{before}ds:{sum:#x}{behind}");
     }
     let scales = ["+riz*1", "+riz*2", "+riz*4", "+riz*8"];
     scales
@@ -130,11 +164,7 @@ fn without_riz(text: &str) -> String {
 
 /// The instruction as objdump writes it in Intel's syntax.
 fn written(instruction: &Instruction) -> String {
-    let mut text = format!(
-        "{} {}",
-        instruction.listed.name,
-        register(instruction, instruction.destination)
-    );
+    let mut text = format!("{} {}", name(instruction), destination(instruction));
     if instruction.mask != 0 {
         text += &format!("{{k{}}}", instruction.mask);
     }
@@ -151,10 +181,39 @@ fn written(instruction: &Instruction) -> String {
             text += &memory(instruction, address, *broadcast);
         }
     }
-    if let Some(mode) = instruction.embedded_mode {
-        text += ["{rn-sae}", "{rd-sae}", "{ru-sae}", "{rz-sae}"][mode as usize];
+    text += match instruction.embedded_mode {
+        Some(mode) => ["{rn-sae}", "{rd-sae}", "{ru-sae}", "{rz-sae}"][mode as usize],
+        None if instruction.hides_exceptions => "{sae}",
+        None => "",
+    };
+    // A predicate that has a name is part of the instruction's.
+    match instruction.immediate {
+        Some(immediate) if immediate > 31 => text + &format!(",{immediate:#x}"),
+        _ => text,
     }
-    text
+}
+
+/// Of VCMPPH with a predicate its name too: `vcmple_oqph`, or `vcmpleph` of the first with that
+/// relation.
+fn name(instruction: &Instruction) -> String {
+    let name = instruction.listed.name;
+    let Some(immediate) = instruction.immediate.filter(|&immediate| immediate <= 31) else {
+        return name.to_string();
+    };
+    let relation = |number: u8| predicate_name(u32::from(number)).split('_').next();
+    let is_first = (0..immediate).all(|earlier| relation(earlier) != relation(immediate));
+    let predicate = match is_first {
+        true => relation(immediate).expect("a relation"),
+        false => predicate_name(u32::from(immediate)),
+    };
+    name.replace("ph", &format!("{}ph", predicate.to_lowercase()))
+}
+
+fn destination(instruction: &Instruction) -> String {
+    match instruction.destination {
+        Destination::Vector(number) => register(instruction, number),
+        Destination::Mask(number) => format!("k{number}"),
+    }
 }
 
 /// One element stands in an xmm register, whatever the length bits say.

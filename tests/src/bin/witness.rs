@@ -8,7 +8,7 @@
 
 use ridgecrook_tests::compare::setting;
 use ridgecrook_tests::differences::Difference;
-use ridgecrook_tests::faults::FAULTS;
+use ridgecrook_tests::faults::{self, Tried};
 use ridgecrook_tests::library;
 use ridgecrook_tests::machine::{Step, StepOutcome};
 use ridgecrook_tests::processor::{has_extended_prefix, model, Processor};
@@ -22,7 +22,7 @@ const SEED: u64 = 20_240_302;
 
 /// Fewer steps than this, which go once round the grid, may miss an answer or a difference without
 /// a fault.
-const ENOUGH: u64 = 50_000;
+const ENOUGH: u64 = 54_000;
 
 /// How many failures are printed; all are counted.
 const PRINTED: u64 = 20;
@@ -115,28 +115,21 @@ impl Counts {
 /// Each fault is put into the library's outcomes; one that no verdict finds out is a failure.
 fn faults(processor: &mut Processor, seed: u64, count: u64) {
     let mut steps = WitnessSteps::seeded(seed, has_extended_prefix());
-    let mut found = [(0_u64, 0_u64); FAULTS.len()];
+    let mut counts = vec![Tried::default(); faults::all().count()];
     for _ in 0..count {
         let (step, length) = steps.step();
         let by_processor = processor
             .step(&step, length)
             .expect("a pointer that is near");
         let library = library::step_outcome(&step);
-        for ((_, spoil), (made, seen)) in FAULTS.iter().zip(&mut found) {
-            let mut spoiled = library.clone();
-            spoil(&step, &mut spoiled);
-            if spoiled != library {
-                *made += 1;
-                *seen += u64::from(verdict(&step, &spoiled, &by_processor) == Verdict::Differs);
-            }
-        }
+        faults::try_all(&step, &library, &by_processor, &mut counts);
     }
     let mut failed = 0;
-    for ((name, _), (made, seen)) in FAULTS.iter().zip(found) {
-        println!("{name}: made {made} times, found {seen}");
-        failed += u64::from(made == 0 || seen != made);
+    for ((name, _), Tried { made, found }) in faults::all().zip(&counts) {
+        println!("{name}: made {made} times, found {found}");
+        failed += usize::from(*made == 0 || found != made);
     }
-    println!("{} passed, {failed} failed", FAULTS.len() as u64 - failed);
+    println!("{} passed, {failed} failed", counts.len() - failed);
     if failed > 0 {
         exit(1);
     }

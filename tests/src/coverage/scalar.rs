@@ -2,7 +2,7 @@
 
 use super::{form, one_or_both, single_bit, yes, Feature, Seen};
 use crate::case::Operation;
-use crate::second::encoding::{Second, Source};
+use crate::second::encoding::{Listed, Second, Source};
 
 /// What is counted of scalar rows alone.
 pub const FEATURES: &[Feature] = &[
@@ -60,7 +60,7 @@ pub const FEATURES: &[Feature] = &[
             let Second::Register(second) = instruction.second else {
                 return None;
             };
-            let (destination, first) = (instruction.destination, instruction.first);
+            let (destination, first) = (instruction.written_vector()?, instruction.first);
             one_or_both(second == destination, second == first)
         },
     ),
@@ -115,18 +115,18 @@ pub const FEATURES: &[Feature] = &[
         single_bit(s.unmasked_raised()?)
     }),
     ("scalar: length bits 11: register, memory", 2, |s| {
-        let code = s.reserved(true)?;
+        let code = s.reserved(Listed::is_scalar)?;
         yes(code[3] & 0x70 == 0x60).map(|_| usize::from(code[5] >> 6 != 3))
     }),
     ("scalar: zeroing without a mask", 1, |s| {
-        yes(s.reserved(true)?[3] & 0x87 == 0x80)
+        yes(s.reserved(Listed::is_scalar)?[3] & 0x87 == 0x80)
     }),
     ("scalar: b in memory form, length bits 0 to 3", 4, |s| {
-        let code = s.reserved(true)?;
+        let code = s.reserved(Listed::is_scalar)?;
         yes(code[5] >> 6 != 3 && code[3] & 0x10 != 0).map(|_| s.length_bits())
     }),
     ("scalar: b in memory form with bytes missing", 1, |s| {
-        let code = s.reserved(true)?;
+        let code = s.reserved(Listed::is_scalar)?;
         let takes_more = code[5] & 7 == 4 || code[5] >> 6 != 0;
         let with_b = code[5] >> 6 != 3 && code[3] & 0x10 != 0;
         yes(with_b && takes_more && s.before.code.len() == 6)
@@ -137,7 +137,7 @@ pub const FEATURES: &[Feature] = &[
 /// are not the same one, these lanes are to differ, or the wrong one would not show.
 fn upper_lanes(s: &Seen) -> Option<usize> {
     let instruction = s.scalar()?;
-    let (first, destination) = (instruction.first, instruction.destination);
+    let (first, destination) = (instruction.first, instruction.written_vector()?);
     let machine = &s.before.machine;
     let differ = (1..8).any(|lane| machine.lane(first, lane) != machine.lane(destination, lane));
     let kind = match (instruction.listed.upper?, first == destination) {

@@ -169,7 +169,8 @@ pub fn claim() {
 /// Runs what stands at `entry` from the frame and leaves in it what comes out.
 pub fn run(frame: &mut Frame, entry: *const u8) -> Option<Caught> {
     // Safety: `claim` lets one thread come here; `entry` holds an instruction of the list, which
-    // writes vector registers and flags alone, and a jump to `witness_back`.
+    // writes a vector or a mask register and flags alone, and a jump to `witness_back`, which
+    // stores them.
     unsafe {
         addr_of_mut!(ENTRY).write(entry as u64);
         addr_of_mut!(CAUGHT).write(None);

@@ -1,7 +1,7 @@
 //! One operation on 32 pairs at a time with every exception masked, for any thread and without
 //! signals.
 
-use crate::case::Operation;
+use crate::case::{Case, Operation};
 use std::arch::asm;
 
 pub type Lanes = [u16; 32];
@@ -56,14 +56,57 @@ on_pairs!(add, "vaddph");
 on_pairs!(subtract, "vsubph");
 on_pairs!(multiply, "vmulph");
 on_pairs!(divide, "vdivph");
+on_pairs!(minimum, "vminph");
+on_pairs!(maximum, "vmaxph");
 
-/// The operations that take two halves.
-pub fn on_pairs(operation: Operation) -> OnPairs {
-    match operation {
-        Operation::Add => add,
-        Operation::Subtract => subtract,
-        Operation::Multiply => multiply,
-        Operation::Divide => divide,
-        Operation::SquareRoot | Operation::FusedMultiplyAdd => panic!("not an operation on pairs"),
+/// The same of a comparison, whose bits become halves 1 and 0.
+macro_rules! on_pairs_to_mask {
+    ($name:ident, $immediate:literal) => {
+        fn $name(a: &Lanes, b: &Lanes, on: u32, control: u32) -> Pairs {
+            let (mut control, mut host, bits) = (control, 0_u32, on);
+            let mask: u32;
+            // Safety: as above.
+            unsafe {
+                asm!(
+                    "stmxcsr [{host}]",
+                    "kmovd k1, {bits:e}",
+                    "vmovdqu16 zmm1, [{a}]",
+                    "vmovdqu16 zmm2, [{b}]",
+                    "ldmxcsr [{control}]",
+                    concat!("vcmpph k2{{k1}}, zmm1, zmm2, ", $immediate),
+                    "stmxcsr [{control}]",
+                    "ldmxcsr [{host}]",
+                    "kmovd {bits:e}, k2",
+                    "vzeroupper",
+                    a = in(reg) a,
+                    b = in(reg) b,
+                    bits = inout(reg) bits => mask,
+                    control = in(reg) &mut control,
+                    host = in(reg) &mut host,
+                    out("xmm1") _, out("xmm2") _, out("k1") _, out("k2") _,
+                    options(nostack),
+                );
+            }
+            let halves = std::array::from_fn(|lane| (mask >> lane & 1) as u16);
+            Pairs { halves, control }
+        }
+    };
+}
+
+on_pairs_to_mask!(le_oq, "18");
+on_pairs_to_mask!(nge_uq, "25");
+
+/// What takes two halves, by a case with any operands; of the predicates only these two are there.
+pub fn on_pairs(case: &Case) -> OnPairs {
+    match (case.operation, case.immediate) {
+        (Operation::Add, _) => add,
+        (Operation::Subtract, _) => subtract,
+        (Operation::Multiply, _) => multiply,
+        (Operation::Divide, _) => divide,
+        (Operation::Minimum, _) => minimum,
+        (Operation::Maximum, _) => maximum,
+        (Operation::Compare, 18) => le_oq,
+        (Operation::Compare, 25) => nge_uq,
+        _ => panic!("{case}: not on pairs"),
     }
 }

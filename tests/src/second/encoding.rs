@@ -1,4 +1,4 @@
-//! The bytes of one instruction taken apart (R3.1 to R3.14), with the refusals that depend on the
+//! The bytes of one instruction taken apart (R3.1 to R3.15), with the refusals that depend on the
 //! bytes alone (R4.5 to R4.11), in their order.
 
 use crate::case::Operation;
@@ -15,6 +15,12 @@ pub struct Listed {
     pub operands: &'static [Source],
     /// R5.10: what gives a scalar row its lanes 1 to 7; a packed row has none.
     pub upper: Option<Source>,
+    /// R3.8: b in register form is suppression, and not embedded rounding.
+    pub suppresses: bool,
+    /// R3.6: the destination is a mask register.
+    pub to_mask: bool,
+    /// R3.1: a byte stands behind all else.
+    pub immediate: bool,
 }
 
 #[derive(Clone, Copy, Debug, PartialEq, Eq)]
@@ -57,19 +63,18 @@ const fn plain(name: &'static str, opcode: u8, operation: Operation) -> Listed {
         operation,
         operands,
         upper: None,
+        suppresses: false,
+        to_mask: false,
+        immediate: false,
     }
 }
 
 const fn fused(name: &'static str, opcode: u8, operands: &'static [Source]) -> Listed {
     Listed {
-        name,
         prefix: 1,
         map: 6,
-        w: 0,
-        opcode,
-        operation: Operation::FusedMultiplyAdd,
         operands,
-        upper: None,
+        ..plain(name, opcode, Operation::FusedMultiplyAdd)
     }
 }
 
@@ -90,15 +95,34 @@ const fn scalar_fused(name: &'static str, opcode: u8, operands: &'static [Source
     }
 }
 
+/// What does not round has nothing to embed a mode for.
+const fn suppressing(name: &'static str, opcode: u8, operation: Operation) -> Listed {
+    Listed {
+        suppresses: true,
+        ..plain(name, opcode, operation)
+    }
+}
+
+const fn comparison(name: &'static str, opcode: u8) -> Listed {
+    Listed {
+        map: 3,
+        to_mask: true,
+        immediate: true,
+        ..suppressing(name, opcode, Operation::Compare)
+    }
+}
+
 /// Multiplicand, multiplier, addend.
 const ORDER_132: &[Source] = &[Source::Destination, Source::Second, Source::First];
 const ORDER_213: &[Source] = &[Source::First, Source::Destination, Source::Second];
 const ORDER_231: &[Source] = &[Source::First, Source::Second, Source::Destination];
 
-/// How many of the list are packed; they stand first.
+/// The list has three groups: so many packed rows that round, so many scalar ones, and packed rows
+/// that compare.
 pub const PACKED: usize = 8;
+pub const SCALAR: usize = 8;
 
-pub const LIST: [Listed; 16] = [
+pub const LIST: [Listed; 19] = [
     plain("vaddph", 0x58, Operation::Add),
     plain("vmulph", 0x59, Operation::Multiply),
     plain("vsubph", 0x5C, Operation::Subtract),
@@ -115,24 +139,62 @@ pub const LIST: [Listed; 16] = [
     scalar_fused("vfmadd132sh", 0x99, ORDER_132),
     scalar_fused("vfmadd213sh", 0xA9, ORDER_213),
     scalar_fused("vfmadd231sh", 0xB9, ORDER_231),
+    suppressing("vminph", 0x5D, Operation::Minimum),
+    suppressing("vmaxph", 0x5F, Operation::Maximum),
+    comparison("vcmpph", 0xC2),
 ];
 
 pub fn scalar_rows() -> &'static [Listed] {
-    &LIST[PACKED..]
+    &LIST[PACKED..PACKED + SCALAR]
+}
+
+pub fn comparing_rows() -> &'static [Listed] {
+    &LIST[PACKED + SCALAR..]
 }
 
 pub struct Instruction {
     pub listed: &'static Listed,
-    pub destination: usize,
+    pub destination: Destination,
     pub first: usize,
     pub second: Second,
     /// R3.7: how many of the lanes have an element, from lane 0 on.
     pub elements: usize,
     /// The mode of embedded rounding; without it the control word has the mode.
     pub embedded_mode: Option<u32>,
+    /// R7.5: embedded rounding or suppression, under which all exceptions count as masked and no
+    /// flag is set.
+    pub hides_exceptions: bool,
+    /// The number of the writemask.
     pub mask: usize,
     pub zeroing: bool,
+    /// R3.15: of a row that has one.
+    pub immediate: Option<u8>,
     pub length: usize,
+}
+
+/// R3.6: which register is written.
+#[derive(Clone, Copy, Debug, PartialEq, Eq)]
+pub enum Destination {
+    Vector(usize),
+    Mask(usize),
+}
+
+impl Instruction {
+    /// The vector register that is written, where it is one.
+    pub fn written_vector(&self) -> Option<usize> {
+        match self.destination {
+            Destination::Vector(number) => Some(number),
+            Destination::Mask(_) => None,
+        }
+    }
+
+    /// The mask register that is written, where it is one.
+    pub fn written_mask(&self) -> Option<usize> {
+        match self.destination {
+            Destination::Vector(_) => None,
+            Destination::Mask(number) => Some(number),
+        }
+    }
 }
 
 /// The r/m operand.
@@ -189,28 +251,44 @@ pub fn decode(code: &[u8]) -> Result<Instruction, u32> {
     // R4.9: no row
     let listed = find(code).ok_or(4_u32)?;
     // R4.10: reserved forms
-    if has_reserved_length(code)
-        || zeroes_without_mask(code)
-        || has_needless_first(listed, code)
-        || broadcasts_one_element(listed, code)
-    {
+    if is_reserved(listed, code) {
         return Err(5);
     }
-    // R4.11: bytes that are not there
-    let (second, length) = second_source(listed, code).ok_or(3_u32)?;
+    // R4.11: bytes that are not there, the immediate last
+    let (second, end) = second_source(listed, code).ok_or(3_u32)?;
+    let length = end + usize::from(listed.immediate);
+    if code.len() < length {
+        return Err(3);
+    }
     Ok(fields(listed, code, second, length))
 }
 
+fn is_reserved(listed: &Listed, code: &[u8]) -> bool {
+    has_reserved_length(code)
+        || zeroes_without_mask(code)
+        || has_needless_first(listed, code)
+        || broadcasts_one_element(listed, code)
+        || zeroes_a_mask(listed, code)
+        || names_no_mask(listed, code)
+}
+
 fn fields(listed: &'static Listed, code: &[u8], second: Second, length: usize) -> Instruction {
+    let number = destination(code);
+    let embeds = has_register_b(code) && !listed.suppresses;
     Instruction {
         listed,
-        destination: destination(code),
+        destination: match listed.to_mask {
+            true => Destination::Mask(number),
+            false => Destination::Vector(number),
+        },
         first: first_source(code),
         second,
         elements: elements(listed, code),
-        embedded_mode: is_embedded_rounding(code).then(|| u32::from(length_bits(code))),
+        embedded_mode: embeds.then(|| u32::from(length_bits(code))),
+        hides_exceptions: has_register_b(code),
         mask: mask(code),
-        zeroing: bit(code[3], 7) == 1,
+        zeroing: zeroes(code),
+        immediate: listed.immediate.then(|| code[length - 1]),
         length,
     }
 }
@@ -231,21 +309,25 @@ fn is_register_form(code: &[u8]) -> bool {
     code[5] >> 6 == 3
 }
 
-/// R3.8: b in register form.
-fn is_embedded_rounding(code: &[u8]) -> bool {
+/// R3.8: b in register form, embedded rounding or suppression.
+fn has_register_b(code: &[u8]) -> bool {
     is_register_form(code) && bit(code[3], 4) == 1
 }
 
 fn has_reserved_length(code: &[u8]) -> bool {
-    length_bits(code) == 3 && !is_embedded_rounding(code)
+    length_bits(code) == 3 && !has_register_b(code)
 }
 
 fn mask(code: &[u8]) -> usize {
     usize::from(code[3] & 7)
 }
 
+fn zeroes(code: &[u8]) -> bool {
+    bit(code[3], 7) == 1
+}
+
 fn zeroes_without_mask(code: &[u8]) -> bool {
-    bit(code[3], 7) == 1 && mask(code) == 0
+    zeroes(code) && mask(code) == 0
 }
 
 /// R4.10: VSQRTPH has no first source, so its five bits must stand for number 0.
@@ -258,11 +340,21 @@ fn broadcasts_one_element(listed: &Listed, code: &[u8]) -> bool {
     listed.is_scalar() && !is_register_form(code) && bit(code[3], 4) == 1
 }
 
-/// R3.7, R3.8: one of a scalar row, and else by the length bits, but 32 with embedded rounding.
+/// R4.10: z of a row that writes a mask, whatever aaa is.
+fn zeroes_a_mask(listed: &Listed, code: &[u8]) -> bool {
+    listed.to_mask && zeroes(code)
+}
+
+/// R4.10: a destination above k7.
+fn names_no_mask(listed: &Listed, code: &[u8]) -> bool {
+    listed.to_mask && destination(code) > 7
+}
+
+/// R3.7, R3.8: one of a scalar row, and else by the length bits, but 32 with b in register form.
 fn elements(listed: &Listed, code: &[u8]) -> usize {
     match length_bits(code) {
         _ if listed.is_scalar() => 1,
-        _ if is_embedded_rounding(code) => 32,
+        _ if has_register_b(code) => 32,
         0 => 8,
         1 => 16,
         _ => 32,
@@ -288,7 +380,7 @@ fn b(code: &[u8]) -> usize {
     inverted(code[1], 5)
 }
 
-/// The r/m operand and the length of the instruction; none where bytes are missing.
+/// The r/m operand, and how many bytes there are up to its end; none where bytes are missing.
 fn second_source(listed: &Listed, code: &[u8]) -> Option<(Second, usize)> {
     let (mode, rm) = (code[5] >> 6, code[5] & 7);
     // R3.6: a register

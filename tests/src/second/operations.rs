@@ -1,5 +1,5 @@
-//! R6.5 to R6.15: what is decided without rounding, and else the exact value that is left to be
-//! rounded.
+//! R6.5 to R6.15: of an operation that rounds, what is decided without, and else the exact value
+//! that is left to be rounded.
 
 use super::exact::{Magnitude, Value};
 use super::half::*;
@@ -75,6 +75,7 @@ fn is_invalid(operation: Operation, [a, b, c]: [u16; 3]) -> bool {
             let cancels = signs_differ(a, b) != is_negative(c);
             zero_times_infinity || infinite_product && is_infinite(c) && cancels
         }
+        Operation::Minimum | Operation::Maximum | Operation::Compare => no_rounding(operation),
     }
 }
 
@@ -125,7 +126,13 @@ fn finite(operation: Operation, [a, b, c]: [u16; 3], mode: Mode) -> Result<Value
             magnitude: Magnitude::root(whole(a), SCALE),
         }),
         Operation::FusedMultiplyAdd => sum(product, alone(c), mode),
+        Operation::Minimum | Operation::Maximum | Operation::Compare => no_rounding(operation),
     }
+}
+
+/// `comparison` has the others.
+fn no_rounding(operation: Operation) -> ! {
+    panic!("{} does not round", operation.name())
 }
 
 /// A term of a sum, in units of 2 to the -48.

@@ -1,7 +1,7 @@
 //! A whole step: the order of the answers and what each leaves (section 4 of docs/RULES.md), lanes
 //! and memory (5), flags (7).
 
-use super::encoding::{decode, Address, Base, Instruction, Second, Source};
+use super::encoding::{decode, Address, Base, Destination, Instruction, Second, Source};
 use crate::case::{Case, Outcome, DE, IE, ZE};
 use crate::machine::{Answer, Machine, Step, StepOutcome, REGISTER_SIZE, VECTORS_SIZE};
 
@@ -46,6 +46,13 @@ pub fn is_on(machine: &Machine, instruction: &Instruction, lane: usize) -> bool 
     has_element && (mask == 0 || machine.masks[mask] >> lane & 1 == 1)
 }
 
+pub fn lanes_on(machine: &Machine, instruction: &Instruction) -> Vec<usize> {
+    let lanes = 0..instruction.elements;
+    lanes
+        .filter(|&lane| is_on(machine, instruction, lane))
+        .collect()
+}
+
 /// The operands of each lane that is on, in the operation's order; none where a word that such a
 /// lane needs lies outside memory (R5.7). For lanes that are off nothing is read (R5.2).
 fn gather(before: &Step, instruction: &Instruction) -> Option<Vec<Option<[u16; 3]>>> {
@@ -58,7 +65,7 @@ fn gather(before: &Step, instruction: &Instruction) -> Option<Vec<Option<[u16; 3
         let mut operands = [0; 3];
         for (operand, source) in operands.iter_mut().zip(instruction.listed.operands) {
             *operand = match source {
-                Source::Destination => before.machine.lane(instruction.destination, lane),
+                Source::Destination => before.machine.lane(accumulator(instruction), lane),
                 Source::First => before.machine.lane(instruction.first, lane),
                 Source::Second => second_operand(before, instruction, lane)?,
             };
@@ -66,6 +73,11 @@ fn gather(before: &Step, instruction: &Instruction) -> Option<Vec<Option<[u16; 3
         all.push(Some(operands));
     }
     Some(all)
+}
+
+/// R2.2: the destination as an operand, which only fused rows have.
+fn accumulator(instruction: &Instruction) -> usize {
+    instruction.written_vector().expect("a vector register")
 }
 
 fn second_operand(before: &Step, instruction: &Instruction, lane: usize) -> Option<u16> {
@@ -122,14 +134,14 @@ fn compute(
 pub const EARLY: u8 = IE | DE | ZE;
 
 /// R7.1 to R7.4: two stages, each over all lanes that are on. The first looks for IE, DE and ZE,
-/// and if one that it finds is unmasked, there is no second. Under embedded rounding nothing is set
-/// (R7.5).
+/// and if one that it finds is unmasked, there is no second. Under embedded rounding and
+/// suppression nothing is set (R7.5).
 fn raise(
     machine: &mut Machine,
     instruction: &Instruction,
     outcomes: &[Option<Outcome>],
 ) -> Result<(), u32> {
-    if instruction.embedded_mode.is_some() {
+    if instruction.hides_exceptions {
         return Ok(());
     }
     let unmasked = unmasked(machine, instruction);
@@ -148,12 +160,16 @@ fn raise(
 
 /// What the arithmetic is asked for a lane.
 fn lane_case(machine: &Machine, instruction: &Instruction, operands: [u16; 3]) -> Case {
-    Case {
-        operation: instruction.listed.operation,
-        mode: mode(machine, instruction),
-        underflow_unmasked: u32::from(unmasked(machine, instruction) >> 4 & 1),
-        operands,
+    let operation = instruction.listed.operation;
+    let mut case = Case::of(operation, operands);
+    if operation.rounds() {
+        case.mode = mode(machine, instruction);
+        case.underflow_unmasked = u32::from(unmasked(machine, instruction) >> 4 & 1);
     }
+    if let Some(immediate) = instruction.immediate {
+        case.immediate = u32::from(immediate);
+    }
+    case
 }
 
 /// What the arithmetic is asked for each lane that is on; nothing where the answer is 7. This takes
@@ -179,27 +195,52 @@ fn mode(machine: &Machine, instruction: &Instruction) -> u32 {
 
 /// R1.5, R7.5: the exceptions that count as unmasked, at the places of their flags.
 pub fn unmasked(machine: &Machine, instruction: &Instruction) -> u8 {
-    match instruction.embedded_mode {
-        Some(_) => 0,
-        None => !(machine.control >> 7) as u8 & 63,
+    if instruction.hides_exceptions {
+        0
+    } else {
+        !(machine.control >> 7) as u8 & 63
     }
 }
 
-/// R5.9, R5.10: every lane of the destination anew, from what stood there before any was written.
 fn write_destination(
     machine: &mut Machine,
     instruction: &Instruction,
     outcomes: &[Option<Outcome>],
 ) {
+    match instruction.destination {
+        Destination::Vector(number) => write_vector(machine, instruction, outcomes, number),
+        Destination::Mask(number) => machine.masks[number] = mask_of(outcomes),
+    }
+}
+
+/// R5.11: a 1 for each lane that is on and of which the predicate holds; every other of the 64 bits
+/// is 0.
+fn mask_of(outcomes: &[Option<Outcome>]) -> u64 {
+    let mut mask = 0;
+    for (lane, outcome) in outcomes.iter().enumerate() {
+        if outcome.is_some_and(|outcome| outcome.half == 1) {
+            mask |= 1 << lane;
+        }
+    }
+    mask
+}
+
+/// R5.9, R5.10: every lane of the destination anew, from what stood there before any was written.
+fn write_vector(
+    machine: &mut Machine,
+    instruction: &Instruction,
+    outcomes: &[Option<Outcome>],
+    register: usize,
+) {
     let half = |lane: usize| match outcomes.get(lane) {
         Some(Some(outcome)) => outcome.half,
         Some(None) if instruction.zeroing => 0,
-        Some(None) => machine.lane(instruction.destination, lane),
+        Some(None) => machine.lane(register, lane),
         None => half_without_element(machine, instruction, lane),
     };
     let halves: Vec<u16> = (0..REGISTER_SIZE / 2).map(half).collect();
     for (lane, half) in halves.into_iter().enumerate() {
-        machine.set_lane(instruction.destination, lane, half);
+        machine.set_lane(register, lane, half);
     }
 }
 
@@ -208,7 +249,7 @@ fn write_destination(
 fn half_without_element(machine: &Machine, instruction: &Instruction, lane: usize) -> u16 {
     match instruction.listed.upper {
         Some(Source::First) if lane < 8 => machine.lane(instruction.first, lane),
-        Some(Source::Destination) if lane < 8 => machine.lane(instruction.destination, lane),
+        Some(Source::Destination) if lane < 8 => machine.lane(accumulator(instruction), lane),
         _ => 0,
     }
 }

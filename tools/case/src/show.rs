@@ -65,16 +65,35 @@ fn numbers(state: &State) -> Vec<String> {
     }
     for (number, &value) in state.masks.iter().enumerate() {
         if value != 0 {
-            let on = (value as u32).count_ones();
-            let remark = format!("{on} of 32 lanes on");
-            lines.push(line(
-                &format!("k{number}"),
-                &format!("0x{value:X}"),
-                &remark,
-            ));
+            let name = format!("k{number}");
+            lines.push(line(&name, &format!("0x{value:X}"), &lanes_on(value)));
         }
     }
     lines
+}
+
+/// How many lanes a mask has on, and which, as a comparison leaves them; bits above them have no
+/// lane.
+fn lanes_on(mask: u64) -> String {
+    let mut runs = Vec::new();
+    let mut lane = 0;
+    while lane < 32 {
+        let count = (mask as u32 >> lane).trailing_ones();
+        match count {
+            0 => {}
+            1 => runs.push(format!("{lane}")),
+            _ => runs.push(format!("{lane} to {}", lane + count - 1)),
+        }
+        lane += count + 1;
+    }
+    let mut remark = format!("{} of 32 lanes on", (mask as u32).count_ones());
+    if !runs.is_empty() {
+        remark += &format!(": {}", runs.join(", "));
+    }
+    if mask >> 32 != 0 {
+        remark += "; bits above 31";
+    }
+    remark
 }
 
 /// A line for each lane, or for neighbours that are equal.

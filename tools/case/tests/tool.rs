@@ -129,6 +129,21 @@ fn what_is_made_runs() {
     }
 }
 
+/// A comparison writes the mask that the next step goes by: lanes 0 and 2 are below 2, and the
+/// subnormal in lane 1 is off, so that it raises nothing unmasked.
+#[test]
+fn a_mask_is_written() {
+    let [compare, add] = ["62 F3 74 48 C2 CA 01", "62 F5 74 49 58 C3"];
+    let state = "control 0x1E80\nk1 0\nzmm1 1 4 1.5 4*29\nzmm2 2*32\nzmm3[1] 0x0001\n";
+    let (input, _) = made("masked", &format!("{state}code {compare} {add}\n"));
+    let known = "0 0 00001e80\n7 0 00001e80\nstop 13\n";
+    assert_eq!(run(&input, "masked-run"), known);
+    // Without the comparison k1 has lane 1 on.
+    let state = state.replace("k1 0", "k1 2");
+    let (input, _) = made("unmasked", &format!("{state}code {add}\n"));
+    assert_eq!(run(&input, "unmasked-run"), "0 8 00001e82\nstop 0\n");
+}
+
 #[test]
 fn the_example() {
     if !has_assembler() {
@@ -139,7 +154,8 @@ fn the_example() {
     let notes = text(&output.stderr);
     assert_eq!(notes.lines().count(), 1, "{notes}");
     assert!(notes.contains("0.1 is no half; the nearest is 0.0999755859375 (0x2E66)"));
-    let known = "0 0 00001fba\n6 0 00001fba\n12 0 00001fba\n18 0 00001fba\nstop 24\n";
+    let known = "0 0 00001fba\n6 0 00001fba\n12 0 00001fba\n18 0 00001fba\n24 0 00001fba\n\
+                 31 0 00001fbb\nstop 37\n";
     assert_eq!(run(&output.stdout, "example-run"), known);
     let again = made("example-again", &shown("example", &output.stdout));
     assert_eq!(again, (output.stdout, String::new()));
@@ -165,6 +181,15 @@ fn assembly_gives_the_bytes() {
             "vfmadd231sh xmm0, xmm4, word ptr [rax + 144]",
             "62F65D08B94048",
         ),
+        ("vminph zmm0, zmm1, zmm2", "62F574485DC2"),
+        ("vmaxph zmm0{k1}{z}, zmm1, zmm2, {sae}", "62F574995FC2"),
+        ("vcmpph k1{k2}, zmm1, zmm2, 1", "62F3744AC2CA01"),
+        ("vcmpph k0, zmm1, zmm2, {sae}, 33", "62F37418C2C221"),
+        ("vcmpnge_uqph k3, xmm1, [rax + 32]", "62F37408C2580219"),
+        (
+            "vcmpltph k2, zmm1, word ptr [rax + 2]{1to32}",
+            "62F37458C2500101",
+        ),
     ] {
         let (by_asm, _) = made("asm", &format!("asm {asm} # a remark\ncode 90\n"));
         let (by_code, _) = made("bytes", &format!("code {code} 90\n"));
@@ -185,13 +210,17 @@ fn without_an_assembler() {
 
 #[test]
 fn a_state_is_shown() {
-    let content = "control 0xFFE5\npointer 16\nrbp 0x20\nk2 7\nzmm5[1] 0.1 nan*2 0xFD00 -inf -0\n";
+    let content = "control 0xFFE5\npointer 16\nrbp 0x20\nk2 7\nk3 0x80000081\nk4 0xFFFFFFFF\n\
+                   k7 0x100000000\nzmm5[1] 0.1 nan*2 0xFD00 -inf -0\n";
     let (input, _) = made("shown", content);
     let expected = "\
 control   0xFFE5     # rounding toward zero; flags: IE ZE PE; masked: IE DE ZE OE UE PE; DAZ; FZ
 pointer   0x10
 rbp       0x20       # 32
-k2        0x7        # 3 of 32 lanes on
+k2        0x7        # 3 of 32 lanes on: 0 to 2
+k3        0x80000081 # 3 of 32 lanes on: 0, 7, 31
+k4        0xFFFFFFFF # 32 of 32 lanes on: 0 to 31
+k7        0x100000000 # 0 of 32 lanes on; bits above 31
 zmm5[0]   0x0000     # 0
 zmm5[1]   0x2E66     # 0.0999755859375
 zmm5[2]   0x7E00*2   # nan, quiet, lanes 2 to 3
@@ -199,7 +228,7 @@ zmm5[4]   0xFD00     # -nan, signalling
 zmm5[5]   0xFC00     # -inf
 zmm5[6]   0x8000     # -0
 zmm5[7]   0x0000*25  # 0, lanes 7 to 31
-# all zero: 15 of 16 general registers, 7 of 8 masks, 31 of 32 vector registers
+# all zero: 15 of 16 general registers, 4 of 8 masks, 31 of 32 vector registers
 ";
     assert_eq!(shown("state", &input[..2257]), expected);
     // An input without code and memory shows the same.
