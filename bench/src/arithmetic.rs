@@ -1,6 +1,6 @@
 //! The rows of the arithmetic: each operation on random halves, on corners and on tame halves.
 
-use crate::{tame, time, Pass, Row};
+use crate::{tame, time, Pass, Row, LT_OS};
 use ridgecrook_bench::plain::PLAIN;
 use ridgecrook_tests::case::{Case, Operation, Outcome};
 use ridgecrook_tests::random::Random;
@@ -11,14 +11,17 @@ use std::rc::Rc;
 /// So many cases that the processor does not learn their branches by heart.
 const CASES: usize = 65_536;
 
-/// Cases with operands of one kind, in one mode and with UE masked, or in all modes and either way.
+/// Cases with operands of one kind: in one mode, with UE masked and by one predicate, or in all
+/// modes, either way and by all predicates.
 fn cases(random: &mut Random, mixed: bool, half: impl Fn(&mut Random) -> u16) -> Rc<[Case]> {
     let [highest_mode, highest_mask] = if mixed { [3, 1] } else { [0, 0] };
+    let [lowest, highest] = if mixed { [0, 31] } else { [LT_OS; 2] };
     let case = |_| Case {
-        // The caller chooses the operation; it takes as many operands as it has.
+        // The caller chooses the operation; it takes what it has of all this.
         operation: Operation::FusedMultiplyAdd,
         mode: random.within(0, highest_mode) as u32,
         underflow_unmasked: random.within(0, highest_mask) as u32,
+        immediate: random.within(lowest.into(), highest.into()) as u32,
         operands: [half(random), half(random), half(random)],
     };
     (0..CASES).map(case).collect()
@@ -58,8 +61,17 @@ fn three(f: impl Fn(u16, u16, u16, u32, u32) -> Outcome + Copy + 'static) -> Imp
     })
 }
 
+/// A function of two operands that does not round.
+fn pair(f: impl Fn(u16, u16) -> Outcome + Copy + 'static) -> Implementation {
+    implementation(move |case| f(case.operands[0], case.operands[1]))
+}
+
+fn comparison(f: impl Fn(u16, u16, u32) -> Outcome + Copy + 'static) -> Implementation {
+    implementation(move |case| f(case.operands[0], case.operands[1], case.immediate))
+}
+
 /// The library's operations are called, so the plain ones are too, through pointers.
-fn operations() -> [(&'static str, [Implementation; 2]); 6] {
+fn operations() -> [(&'static str, [Implementation; 2]); 9] {
     use library as l;
     let p = black_box(PLAIN);
     [
@@ -72,6 +84,9 @@ fn operations() -> [(&'static str, [Implementation; 2]); 6] {
             "fused_multiply_add",
             [three(l::fused_multiply_add), three(p.fused_multiply_add)],
         ),
+        ("minimum", [pair(l::minimum), pair(p.minimum)]),
+        ("maximum", [pair(l::maximum), pair(p.maximum)]),
+        ("compare", [comparison(l::compare), comparison(p.compare)]),
     ]
 }
 

@@ -1,5 +1,6 @@
 //! What the benchmark times the library against.
 
 pub mod plain;
+mod plain_compare;
 mod plain_double;
 pub mod plain_step;

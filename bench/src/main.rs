@@ -11,6 +11,9 @@ use std::time::Instant;
 /// machine only adds.
 const ROUNDS: usize = 60;
 
+/// R6.28: the predicate where one is enough: less, and a quiet NaN is signalled.
+const LT_OS: u8 = 1;
+
 /// Nanoseconds a call, and a number that depends on every outcome.
 type Timed = (f64, u64);
 
@@ -73,6 +76,7 @@ fn main() {
     }
     println!("nanoseconds a call: an operation on halves, or a whole step");
     println!("tame halves: 2 to the -4 to 2 to the 4, in mode 0 alone; else modes mixed;");
+    println!("comparisons of halves by LT_OS where they are tame, else predicates mixed;");
     println!("{}", steps::SETTING);
     println!(
         "{:<20} {:<29} {:>10} {:>10} {:>8}",

@@ -1,7 +1,9 @@
 //! The half arithmetic with the same modes and six flags, unproved and written for speed: normal
 //! operands by integers, as a good engineer would write it without proofs; all others, and results
-//! that are zero or may be subnormal, through f64 (`plain_double`). A step has them inlined.
+//! that are zero or may be subnormal, through f64 (`plain_double`). A step has them inlined. What
+//! compares and does not round stands in `plain_compare`.
 
+use crate::plain_compare::{compare, maximum, minimum};
 use crate::plain_double as double;
 use ridgecrook_tests::case::{Arithmetic, Outcome, OE, PE, UE};
 
@@ -12,6 +14,9 @@ pub const PLAIN: Arithmetic = Arithmetic {
     divide,
     square_root,
     fused_multiply_add,
+    minimum,
+    maximum,
+    compare,
 };
 
 const SIGN: u16 = 0x8000;

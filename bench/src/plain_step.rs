@@ -1,11 +1,15 @@
 //! A whole step with the same checks and answers as the library's, unproved and written for speed:
 //! lanes that are on are a 32-bit number, and a vector that lies whole in memory is copied at once.
-//! The operations are inlined: called, they took up to a sixth longer. Scalar forms part from the
-//! packed ones before anything is decoded: after it, each packed step took some nanoseconds longer.
+//! The operations are inlined: called, they took up to a sixth longer. Scalar forms, and those that
+//! compare, part from the packed ones before anything is decoded: after it, each packed step took
+//! some nanoseconds longer.
 
+mod compare;
+mod fields;
 mod scalar;
 
 use crate::plain;
+use fields::{Fields, Head};
 use ridgecrook_tests::case::{Outcome, DE, IE, ZE};
 use ridgecrook_tests::machine::{Answer, Machine, REGISTER_SIZE, VECTORS_SIZE};
 
@@ -14,10 +18,10 @@ const EARLY: u8 = IE | DE | ZE;
 type Register = [u16; LANES];
 
 pub fn step(machine: &mut Machine, code: &[u8], memory: &[u8]) -> Answer {
-    let done = if looks_scalar(code) {
-        scalar::carry_out(machine, code, memory)
-    } else {
-        carry_out(machine, code, memory)
+    let done = match group(code) {
+        Group::Packed => carry_out(machine, code, memory),
+        Group::Scalar => scalar::carry_out(machine, code, memory),
+        Group::Comparing => compare::carry_out(machine, code, memory),
     };
     match done {
         Ok(length) => Answer { number: 0, length },
@@ -25,36 +29,49 @@ pub fn step(machine: &mut Machine, code: &[u8], memory: &[u8]) -> Answer {
     }
 }
 
-/// By the prefix F3, or an odd opcode after the prefix 66: no packed row has either.
+/// Rows that have a way of their own.
+enum Group {
+    Packed,
+    Scalar,
+    Comparing,
+}
+
+/// A scalar row has the prefix F3, or an odd opcode after the prefix 66; a row that compares has no
+/// prefix and one of three opcodes. What looks like none of them goes with the packed rows.
 #[inline]
-fn looks_scalar(code: &[u8]) -> bool {
+fn group(code: &[u8]) -> Group {
     let Some([_, _, byte_2, _, opcode]) = code.first_chunk() else {
-        return false;
+        return Group::Packed;
     };
-    byte_2 & 3 == 2 || byte_2 & 3 == 1 && opcode & 1 == 1
+    match byte_2 & 3 {
+        0 if opcode & 0xFD == 0x5D || *opcode == 0xC2 => Group::Comparing,
+        1 if opcode & 1 == 1 => Group::Scalar,
+        2 => Group::Scalar,
+        _ => Group::Packed,
+    }
 }
 
 #[inline]
 fn carry_out(machine: &mut Machine, code: &[u8], memory: &[u8]) -> Result<u32, u32> {
-    let fields = accepted::<false>(machine, code)?;
+    check(machine)?;
+    let (kind, fields) = decode::<false>(code)?;
     let on = fields.on(machine);
     let second = second_source(machine, &fields, on, code, memory)?;
-    let (results, flags) = compute(machine, &fields, on, &second);
+    let (results, flags) = compute(machine, kind, &fields, on, &second);
     record(machine, &fields, flags)?;
     write_destination(machine, &fields, on, &results);
     Ok(advance(machine, &fields))
 }
 
-/// The fields, unless a refusal before 7 applies.
 #[inline]
-fn accepted<const SCALAR: bool>(machine: &Machine, code: &[u8]) -> Result<Fields, u32> {
+fn check(machine: &Machine) -> Result<(), u32> {
     if machine.vectors.len() != VECTORS_SIZE {
         return Err(1);
     }
     if machine.control >> 16 != 0 {
         return Err(2);
     }
-    Fields::decode::<SCALAR>(code)
+    Ok(())
 }
 
 #[inline]
@@ -66,7 +83,7 @@ fn advance(machine: &mut Machine, fields: &Fields) -> u32 {
 /// Adds an instruction's flags to the control word.
 #[inline]
 fn record(machine: &mut Machine, fields: &Fields, flags: u8) -> Result<(), u32> {
-    if fields.embedded {
+    if fields.hides_exceptions {
         return Ok(());
     }
     let unmasked = !(machine.control >> 7) as u8;
@@ -90,106 +107,32 @@ enum Kind {
     Fused231,
 }
 
-struct Fields {
-    kind: Kind,
-    modrm: u8,
-    byte_1: u8,
-    byte_3: u8,
-    first: usize,
-    embedded: bool,
-    /// So many elements: 1 for a scalar form.
-    lanes: usize,
-    length: usize,
-    /// Where a displacement begins, and how many bytes it has.
-    displacement: (usize, usize),
-}
-
-impl Fields {
-    #[inline]
-    fn decode<const SCALAR: bool>(code: &[u8]) -> Result<Fields, u32> {
-        let Some(&[byte_0, byte_1, byte_2, byte_3, opcode, modrm]) = code.first_chunk() else {
-            return Err(match code.first() {
-                Some(0x62) | None => 3,
-                Some(_) => 4,
-            });
-        };
-        if byte_0 != 0x62 {
-            return Err(4);
-        }
-        if byte_1 & 8 != 0 || byte_2 & 4 == 0 {
-            return Err(5);
-        }
-        let kind = listed::<SCALAR>(byte_1 & 7, byte_2 & 0x83, opcode).ok_or(4_u32)?;
-        let first = usize::from(!byte_2 >> 3 & 15 | (!byte_3 & 8) << 1);
-        let embedded = modrm >= 0xC0 && byte_3 & 0x10 != 0;
-        let needless_first = kind == Kind::Root && !SCALAR && first != 0;
-        if needless_first || is_reserved(byte_3, embedded, SCALAR) {
-            return Err(5);
-        }
-        let displacement = displacement_place(code, modrm).ok_or(3_u32)?;
-        let length = displacement.0 + displacement.1;
-        if code.len() < length {
-            return Err(3);
-        }
-        Ok(Fields {
-            kind,
-            modrm,
-            byte_1,
-            byte_3,
-            first,
-            embedded,
-            lanes: lanes(byte_3, embedded, SCALAR),
-            length,
-            displacement,
-        })
-    }
-
-    /// The lanes that are on, one bit each.
-    #[inline]
-    fn on(&self, machine: &Machine) -> u32 {
-        let mask = match self.byte_3 & 7 {
-            0 => u32::MAX,
-            number => machine.masks[usize::from(number)] as u32,
-        };
-        mask & (u32::MAX >> (LANES - self.lanes))
-    }
-
-    #[inline]
-    fn destination(&self) -> usize {
-        let low = self.modrm >> 3 & 7;
-        usize::from(low | !self.byte_1 >> 4 & 8 | !self.byte_1 & 16)
-    }
-
-    /// The second source, in register form.
-    #[inline]
-    fn second(&self) -> usize {
-        let high = !self.byte_1 >> 2 & 16 | !self.byte_1 >> 2 & 8;
-        usize::from(self.modrm & 7 | high)
-    }
-
-    /// The rounding mode, and whether underflow is unmasked.
-    #[inline]
-    fn rounding(&self, machine: &Machine) -> (u32, u32) {
-        if self.embedded {
-            (u32::from(self.byte_3 >> 5 & 3), 0)
-        } else {
-            (machine.control >> 13 & 3, !machine.control >> 11 & 1)
-        }
-    }
-}
-
-/// By map, W and prefix bits of byte 2, and opcode. A scalar row has F3 in the place of no prefix,
-/// or 1 in the place of the opcode's lowest bit.
 #[inline]
-fn listed<const SCALAR: bool>(map: u8, prefix: u8, opcode: u8) -> Option<Kind> {
+fn decode<const SCALAR: bool>(code: &[u8]) -> Result<(Kind, Fields), u32> {
+    let head = Head::of(code)?;
+    let kind = listed::<SCALAR>(head).ok_or(4_u32)?;
+    let needless_first = kind == Kind::Root && !SCALAR && head.first() != 0;
+    let scalar_broadcast = SCALAR && head.bytes[3] & 0x10 != 0 && head.bytes[5] < 0xC0;
+    if needless_first || scalar_broadcast || head.is_reserved() {
+        return Err(5);
+    }
+    let lanes = if SCALAR { 1 } else { head.lanes() };
+    Ok((kind, Fields::of(head, code, lanes, 0)?))
+}
+
+/// A scalar row has F3 in the place of no prefix, or 1 in the place of the opcode's lowest bit.
+#[inline]
+fn listed<const SCALAR: bool>(head: Head) -> Option<Kind> {
     let (none, odd) = if SCALAR { (2, 1) } else { (0, 0) };
-    match (map, opcode) {
+    // W and the prefix.
+    let prefix = head.bytes[2] & 0x83;
+    match (head.bytes[1] & 7, head.bytes[4]) {
         (5, 0x58) if prefix == none => Some(Kind::Add),
         (5, 0x5C) if prefix == none => Some(Kind::Subtract),
         (5, 0x59) if prefix == none => Some(Kind::Multiply),
         (5, 0x5E) if prefix == none => Some(Kind::Divide),
         (5, 0x51) if prefix == none => Some(Kind::Root),
-        (6, _) if prefix == 1 => fused(opcode ^ odd),
+        (6, opcode) if prefix == 1 => fused(opcode ^ odd),
         _ => None,
     }
 }
@@ -203,44 +146,6 @@ fn fused(opcode: u8) -> Option<Kind> {
         0xB8 => Some(Kind::Fused231),
         _ => None,
     }
-}
-
-/// Length bits 3 without embedded rounding, zeroing without a mask, or b with memory in a scalar
-/// form.
-#[inline]
-fn is_reserved(byte_3: u8, embedded: bool, scalar: bool) -> bool {
-    let by_form = byte_3 & 0x60 == 0x60 || scalar && byte_3 & 0x10 != 0;
-    by_form && !embedded || byte_3 & 0x87 == 0x80
-}
-
-#[inline]
-fn lanes(byte_3: u8, embedded: bool, scalar: bool) -> usize {
-    match (scalar, embedded) {
-        (true, _) => 1,
-        (false, true) => LANES,
-        (false, false) => 8 << (byte_3 >> 5 & 3),
-    }
-}
-
-/// None where the SIB byte is missing.
-#[inline]
-fn displacement_place(code: &[u8], modrm: u8) -> Option<(usize, usize)> {
-    let (mode, rm) = (modrm >> 6, modrm & 7);
-    if mode == 3 {
-        return Some((6, 0));
-    }
-    let (at, base) = if rm == 4 {
-        (7, code.get(6)? & 7)
-    } else {
-        (6, rm)
-    };
-    let bytes = match mode {
-        0 if base == 5 => 4,
-        0 => 0,
-        1 => 1,
-        _ => 4,
-    };
-    Some((at, bytes))
 }
 
 #[inline]
@@ -329,11 +234,17 @@ fn read_memory(memory: &[u8], address: u64, fields: &Fields, on: u32) -> Result<
 }
 
 #[inline]
-fn compute(machine: &Machine, fields: &Fields, on: u32, second: &Register) -> (Register, u8) {
+fn compute(
+    machine: &Machine,
+    kind: Kind,
+    fields: &Fields,
+    on: u32,
+    second: &Register,
+) -> (Register, u8) {
     let (m, u) = fields.rounding(machine);
     let (s, d) = (second, register(machine, fields.destination()));
     let f = register(machine, fields.first);
-    match fields.kind {
+    match kind {
         Kind::Add => each(on, |j| plain::add(f[j], s[j], m, u)),
         Kind::Subtract => each(on, |j| plain::subtract(f[j], s[j], m, u)),
         Kind::Multiply => each(on, |j| plain::multiply(f[j], s[j], m, u)),

@@ -1,13 +1,13 @@
 //! The rows of steps: each packed instruction with 32 lanes, how the time goes with the lanes that
-//! are on, and each scalar instruction.
+//! are on, each scalar instruction, and those that compare.
 
-use crate::{tame, time, Row, Timed};
+use crate::{tame, time, Row, Timed, LT_OS};
 use ridgecrook_bench::plain_step;
 use ridgecrook_tests::assemble::{Encoding, LANES_16, LANES_32, LANES_8};
 use ridgecrook_tests::library;
 use ridgecrook_tests::machine::{Answer, Machine, ALL_MASKED, REGISTER_SIZE};
 use ridgecrook_tests::random::Random;
-use ridgecrook_tests::second::encoding::{Listed, LIST, PACKED};
+use ridgecrook_tests::second::encoding::{comparing_rows, scalar_rows, Listed, LIST, PACKED};
 
 /// A million steps of each row in all rounds together.
 const STEPS: usize = 1_000_000;
@@ -16,8 +16,9 @@ const STEPS: usize = 1_000_000;
 const CODES: usize = 1024;
 
 pub const SETTING: &str = "steps: finite random lanes, or tame ones, the mode from the
-control word, exceptions masked. A million steps a row. Before each step, and timed with it, the
-destination register is filled with such lanes; no other buffer is cleared.";
+control word, exceptions masked; comparisons by LT_OS but where the predicate is any. A million
+steps a row. Before each step, and timed with it, the destination register is filled with such
+lanes, or a destination mask with ones; no other buffer is cleared.";
 
 type Step = fn(&mut Machine, &[u8], &[u8]) -> Answer;
 
@@ -81,7 +82,11 @@ impl Work {
             let [first, second] = [0; 2].map(|_| random.within(1, 31) as u8);
             let first = if listed.takes_first() { first } else { 0 };
             let mut encoding = Encoding::registers(listed, 0, first, second);
+            encoding.immediate = listed.immediate.then_some(LT_OS);
             (kind.change)(&mut encoding);
+            if kind.any_predicate {
+                encoding.immediate = Some(random.within(0, 31) as u8);
+            }
             codes.push(encoding.bytes());
         }
         let mut machine = Machine::blank();
@@ -98,25 +103,39 @@ impl Work {
         }
     }
 
-    fn pass(&self, step: Step, calls: usize) -> Timed {
+    /// The destination is register 0, or mask 0; what is written there goes into the digest.
+    fn pass<const TO_MASK: bool>(&self, step: Step, calls: usize) -> Timed {
         let mut machine = self.machine.clone();
         time(calls, |place| {
             let turn = place % CODES;
-            machine.vectors[..REGISTER_SIZE].copy_from_slice(&self.destinations[turn]);
+            if TO_MASK {
+                machine.masks[0] = u64::MAX;
+            } else {
+                machine.vectors[..REGISTER_SIZE].copy_from_slice(&self.destinations[turn]);
+            }
             machine.control = self.lanes.control(turn);
             // An even address, for memory forms.
             machine.general[3] = 2 * turn as u64;
             let end = self.memory_end.map(|bytes| 2 * turn + bytes);
             let memory = &self.memory[..end.unwrap_or(self.memory.len())];
             let answer = step(&mut machine, &self.codes[turn], memory);
-            let words = machine.vectors[..REGISTER_SIZE].chunks_exact(8);
-            let sum = words.fold(0, |sum: u64, word| {
-                sum.wrapping_add(u64::from_le_bytes(word.try_into().expect("8 bytes")))
-            });
+            let written = if TO_MASK {
+                machine.masks[0]
+            } else {
+                sum(&machine.vectors[..REGISTER_SIZE])
+            };
             assert_eq!(answer.number, 0);
-            sum ^ u64::from(machine.control) << 32
+            written ^ u64::from(machine.control) << 32
         })
     }
+}
+
+/// A number that depends on every byte of a register.
+fn sum(register: &[u8]) -> u64 {
+    let words = register.chunks_exact(8);
+    words.fold(0, |sum: u64, word| {
+        sum.wrapping_add(u64::from_le_bytes(word.try_into().expect("8 bytes")))
+    })
 }
 
 /// How a row's instructions differ from a register form with the length bits of 32 lanes.
@@ -126,6 +145,8 @@ struct Kind {
     mask: u64,
     /// Memory ends so many bytes behind the address; else far behind it.
     memory_end: Option<usize>,
+    /// Each comparison has a predicate drawn for itself; else it is LT_OS.
+    any_predicate: bool,
     change: fn(&mut Encoding),
 }
 
@@ -134,24 +155,27 @@ fn row(listed: &Listed, lanes: Lanes, kind: &Kind, calls: usize) -> Row {
         Lanes::Random => kind.name.to_string(),
         Lanes::Tame | Lanes::TamePositive => format!("{}, tame", kind.name),
     };
+    let pass = if listed.to_mask {
+        Work::pass::<true>
+    } else {
+        Work::pass::<false>
+    };
     let work = || Work::of(listed, lanes, kind);
     let (by_library, by_plain) = (work(), work());
     Row::of(
         listed.name,
         &name,
         [
-            Box::new(move || by_library.pass(library::step, calls)),
-            Box::new(move || by_plain.pass(plain_step::step, calls)),
+            Box::new(move || pass(&by_library, library::step, calls)),
+            Box::new(move || pass(&by_plain, plain_step::step, calls)),
         ],
     )
 }
 
 const fn masked(name: &'static str, mask: u64) -> Kind {
     Kind {
-        name,
         mask,
-        memory_end: None,
-        change: |e| e.mask = 1,
+        ..changed(name, |e| e.mask = 1)
     }
 }
 
@@ -160,6 +184,7 @@ const fn changed(name: &'static str, change: fn(&mut Encoding)) -> Kind {
         name,
         mask: 0,
         memory_end: None,
+        any_predicate: false,
         change,
     }
 }
@@ -183,13 +208,12 @@ const LANES_ON: [Kind; 10] = [
     changed("32 lanes, memory", from_memory),
     // The last lane is off, and its word would lie outside.
     Kind {
-        name: "31 lanes, memory's end",
         mask: 0x7FFF_FFFF,
         memory_end: Some(62),
-        change: |e| {
+        ..changed("31 lanes, memory's end", |e| {
             from_memory(e);
             e.mask = 1;
-        },
+        })
     },
     changed("32 lanes, broadcast", |e| {
         from_memory(e);
@@ -207,11 +231,18 @@ const SCALAR_FORMS: [Kind; 2] = [
         e.length = LANES_8;
     }),
     Kind {
-        name: "lane 0 off",
         // Every bit but the one that is read.
         mask: !1,
-        memory_end: None,
-        change: |e| (e.mask, e.length) = (1, LANES_8),
+        ..changed("lane 0 off", |e| (e.mask, e.length) = (1, LANES_8))
+    },
+];
+
+/// What else is timed of a comparison.
+const COMPARISON_FORMS: [Kind; 2] = [
+    changed("32 lanes, suppressed", |e| e.extra = 1),
+    Kind {
+        any_predicate: true,
+        ..changed("32 lanes, any predicate", |_| ())
     },
 ];
 
@@ -239,10 +270,14 @@ fn forms(listed: &Listed, kinds: &[Kind], calls: usize) -> Vec<Row> {
 
 pub fn rows(rounds: usize) -> Vec<Row> {
     let calls = STEPS.div_ceil(rounds);
-    let (packed, scalar) = LIST.split_at(PACKED);
+    let (packed, scalar, comparing) = (&LIST[..PACKED], scalar_rows(), comparing_rows());
+    let comparison = &comparing[2];
     let mut rows = each(packed, &WHOLE, calls);
     rows.extend(forms(&packed[1], &LANES_ON, calls));
     rows.extend(each(scalar, &SCALAR, calls));
     rows.extend(forms(&scalar[1], &SCALAR_FORMS, calls));
+    rows.extend(each(comparing, &WHOLE, calls));
+    rows.extend(forms(comparison, &LANES_ON, calls));
+    rows.extend(forms(comparison, &COMPARISON_FORMS, calls));
     rows
 }

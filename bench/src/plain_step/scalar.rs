@@ -1,6 +1,6 @@
 //! Scalar forms: one half of each operand is read, and lanes 0 to 7 are written as one number.
 
-use super::{accepted, address, advance, record, word, Fields, Kind};
+use super::{address, advance, check, decode, record, word, Fields, Kind};
 use crate::plain;
 use ridgecrook_tests::case::Outcome;
 use ridgecrook_tests::machine::{Machine, REGISTER_SIZE};
@@ -11,12 +11,13 @@ const LOW: usize = 16;
 /// Not inlined, so that it takes nothing from the packed forms.
 #[inline(never)]
 pub fn carry_out(machine: &mut Machine, code: &[u8], memory: &[u8]) -> Result<u32, u32> {
-    let fields = &accepted::<true>(machine, code)?;
+    check(machine)?;
+    let (kind, fields) = &decode::<true>(code)?;
     let on = fields.on(machine) == 1;
     let destination = fields.destination();
     let half = if on {
         let second = second_half(machine, fields, code, memory)?;
-        let outcome = compute(machine, fields, second);
+        let outcome = compute(machine, *kind, fields, second);
         record(machine, fields, outcome.flags)?;
         outcome.half
     } else if fields.byte_3 & 0x80 != 0 {
@@ -24,7 +25,7 @@ pub fn carry_out(machine: &mut Machine, code: &[u8], memory: &[u8]) -> Result<u3
     } else {
         lane_0(machine, destination)
     };
-    let others = low_lanes(machine, others_from(fields)) & !0xFFFF;
+    let others = low_lanes(machine, others_from(*kind, fields)) & !0xFFFF;
     let register = &mut machine.vectors[REGISTER_SIZE * destination..][..REGISTER_SIZE];
     register[..LOW].copy_from_slice(&(others | u128::from(half)).to_le_bytes());
     register[LOW..].fill(0);
@@ -33,8 +34,8 @@ pub fn carry_out(machine: &mut Machine, code: &[u8], memory: &[u8]) -> Result<u3
 
 /// The register whose lanes 1 to 7 the destination gets.
 #[inline]
-fn others_from(fields: &Fields) -> usize {
-    match fields.kind {
+fn others_from(kind: Kind, fields: &Fields) -> usize {
+    match kind {
         Kind::Fused132 | Kind::Fused213 | Kind::Fused231 => fields.destination(),
         _ => fields.first,
     }
@@ -62,11 +63,11 @@ fn second_half(machine: &Machine, fields: &Fields, code: &[u8], memory: &[u8]) -
 }
 
 #[inline]
-fn compute(machine: &Machine, fields: &Fields, s: u16) -> Outcome {
+fn compute(machine: &Machine, kind: Kind, fields: &Fields, s: u16) -> Outcome {
     let (m, u) = fields.rounding(machine);
     let d = lane_0(machine, fields.destination());
     let f = lane_0(machine, fields.first);
-    match fields.kind {
+    match kind {
         Kind::Add => plain::add(f, s, m, u),
         Kind::Subtract => plain::subtract(f, s, m, u),
         Kind::Multiply => plain::multiply(f, s, m, u),
