@@ -10,7 +10,8 @@
 //!
 //! Compared are the half of every pair, the flags of each 32 lanes together, and in one block of 64
 //! the flags of each lane alone (all exceptions masked). Where the processor has not the
-//! instructions, the second program takes its place on one block in 4,096.
+//! instructions, those that compare are held against its singles (`processor/singles.rs`), and the
+//! others, on one block in 4,096, against the second program.
 //!
 //! An operation and mode that is finished whole and without a difference is noted in
 //! target/exhaustive/finished.txt, for the library that was linked, and passed over from then on.
@@ -18,7 +19,7 @@
 use ridgecrook_tests::case::{Case, Operation, Outcome};
 use ridgecrook_tests::machine::ALL_MASKED;
 use ridgecrook_tests::processor::pairs::{on_pairs, Lanes, OnPairs, Pairs};
-use ridgecrook_tests::processor::{missing, model};
+use ridgecrook_tests::processor::{missing, model, singles};
 use ridgecrook_tests::{library, second};
 use std::io::Write;
 use std::path::PathBuf;
@@ -55,17 +56,13 @@ const PRINTED: u64 = 20;
 fn main() {
     let options = Options::read();
     let missing = missing();
-    let (witness, share) = match &missing {
-        None => (model(), options.share),
-        Some(why) => {
-            println!("skipped: {why}; the second program takes the processor's place on a sample");
-            let share = options.share.max(SHARE_OF_SECOND);
-            ("second program".to_string(), share)
-        }
-    };
-    let tasks = options.tasks(share, missing.is_none());
+    if let Some(why) = &missing {
+        println!("skipped: {why}; its singles or the second program take the place of its halves");
+    }
+    let tasks = options.tasks(missing.is_none());
     println!(
-        "exhaustive: {witness}, library {LINKED}, {} threads",
+        "exhaustive: {}, library {LINKED}, {} threads",
+        model(),
         threads()
     );
     let progress = Progress::of(&tasks);
@@ -74,11 +71,11 @@ fn main() {
         let before = progress.pairs.load(Ordering::Relaxed);
         let differences = task.run(&progress);
         let pairs = progress.pairs.load(Ordering::Relaxed) - before;
-        let name = task.name();
-        println!("{name}: {pairs} pairs, {differences} blocks differ");
+        let (name, witness) = (task.name(), task.witness.name());
+        println!("{name}, by {witness}: {pairs} pairs, {differences} blocks differ");
         failed += u64::from(differences > 0);
         if pairs == 1 << 32 && differences == 0 {
-            note(task, &witness);
+            note(task);
         }
     }
     println!("{} passed, {failed} failed", tasks.len() as u64 - failed);
@@ -150,7 +147,7 @@ impl Options {
     }
 
     /// What is to do; what was finished before is left out with a line.
-    fn tasks(&self, share: u64, by_processor: bool) -> Vec<Task> {
+    fn tasks(&self, has_halves: bool) -> Vec<Task> {
         let finished = std::fs::read_to_string(notes()).unwrap_or_default();
         let mut tasks = Vec::new();
         for &(name, operation, immediate) in &self.tried {
@@ -160,14 +157,15 @@ impl Options {
                     immediate,
                     ..Case::of(operation, [0; 3])
                 };
+                let witness = Witness::of(&case, has_halves);
                 let task = Task {
                     name,
                     case,
-                    share,
-                    processor: by_processor.then(|| on_pairs(&case)),
+                    share: self.share.max(witness.share()),
+                    witness,
                 };
-                let known = format!("{} library {LINKED} ", task.name());
-                if share == 1 && finished.lines().any(|line| line.starts_with(&known)) {
+                let known = task.note();
+                if task.share == 1 && finished.lines().any(|line| line == known) {
                     println!("{}: finished before", task.name());
                 } else {
                     tasks.push(task);
@@ -189,14 +187,49 @@ fn notes() -> PathBuf {
     ))
 }
 
-fn note(task: &Task, witness: &str) {
+fn note(task: &Task) {
     let path = notes();
     let folder = path.parent().expect("a file in a folder");
     std::fs::create_dir_all(folder).expect("a folder below target/");
     let mut options = std::fs::OpenOptions::new();
     let file = options.create(true).append(true).open(&path);
-    let line = format!("{} library {LINKED} witness {witness}", task.name());
-    writeln!(file.expect("the file of what is finished"), "{line}").expect("a line is written");
+    let mut file = file.expect("the file of what is finished");
+    writeln!(file, "{}", task.note()).expect("a line is written");
+}
+
+/// What the library is held against.
+enum Witness {
+    Halves(OnPairs),
+    Singles,
+    SecondProgram,
+}
+
+impl Witness {
+    fn of(case: &Case, has_halves: bool) -> Witness {
+        if has_halves {
+            Witness::Halves(on_pairs(case))
+        } else if !case.operation.rounds() && singles::are_here() {
+            Witness::Singles
+        } else {
+            Witness::SecondProgram
+        }
+    }
+
+    fn name(&self) -> &'static str {
+        match self {
+            Witness::Halves(_) => "the processor",
+            Witness::Singles => "the processor's singles",
+            Witness::SecondProgram => "the second program",
+        }
+    }
+
+    /// It is asked about one block in so many.
+    fn share(&self) -> u64 {
+        match self {
+            Witness::SecondProgram => SHARE_OF_SECOND,
+            _ => 1,
+        }
+    }
 }
 
 /// An operation in a mode, if it has one: a case but for its operands.
@@ -204,10 +237,16 @@ struct Task {
     name: &'static str,
     case: Case,
     share: u64,
-    processor: Option<OnPairs>,
+    witness: Witness,
 }
 
 impl Task {
+    /// The line of what was finished.
+    fn note(&self) -> String {
+        let (name, witness) = (self.name(), self.witness.name());
+        format!("{name} library {LINKED} witness {witness}, {}", model())
+    }
+
     fn name(&self) -> String {
         match self.case.operation.rounds() {
             true => format!("{} m{}", self.name, self.case.mode),
@@ -270,11 +309,11 @@ impl Task {
 
     fn differs(&self, block: &Block, single: bool) -> bool {
         let (pairs, flags) = self.library(block);
-        if pairs != self.witness(block, u32::MAX) {
+        if pairs != self.asked(block, u32::MAX) {
             return true;
         }
         let control = self.control();
-        let alone = |lane: usize| self.witness(block, 1 << lane).control;
+        let alone = |lane: usize| self.asked(block, 1 << lane).control;
         single && (0..32).any(|lane| alone(lane) != control | u32::from(flags[lane]))
     }
 
@@ -313,11 +352,17 @@ impl Task {
         (Pairs { halves, control }, flags)
     }
 
-    /// What the processor or the second program says of the lanes of `on`.
-    fn witness(&self, block: &Block, on: u32) -> Pairs {
-        if let Some(processor) = self.processor {
-            return processor(&block.a, &block.b, on, self.control());
+    /// What the witness says of the lanes of `on`.
+    fn asked(&self, block: &Block, on: u32) -> Pairs {
+        let (a, b) = (&block.a, &block.b);
+        match self.witness {
+            Witness::Halves(function) => function(a, b, on, self.control()),
+            Witness::Singles => singles::pairs(&self.case, a, b, on, self.control()),
+            Witness::SecondProgram => self.second(block, on),
         }
+    }
+
+    fn second(&self, block: &Block, on: u32) -> Pairs {
         let (mut halves, mut control) = ([0; 32], self.control());
         for lane in (0..32).filter(|lane| on >> lane & 1 == 1) {
             let outcome = second::answer(&self.case(block.a[lane], block.b[lane]));
@@ -332,7 +377,7 @@ impl Task {
         let (pairs, flags) = self.library(block);
         for lane in 0..32 {
             let (half, flags) = (pairs.halves[lane], flags[lane]);
-            let alone = self.witness(block, 1 << lane);
+            let alone = self.asked(block, 1 << lane);
             let other = Outcome {
                 half: alone.halves[lane],
                 flags: (alone.control & 63) as u8,

@@ -2,11 +2,13 @@
 //! that know no halves. The predicates are the same (R6.28), so they speak for those of halves too:
 //! each half has a single of its own kind, and these stand in the order of their halves.
 
+use super::pairs::{Lanes, Pairs};
 use crate::case::{Case, Operation, Outcome};
 use crate::machine::ALL_MASKED;
 use std::arch::asm;
+use std::array::from_fn;
 
-/// Whether the processor has VCMPSS.
+/// Whether the processor has VCMPPS.
 pub fn are_here() -> bool {
     is_x86_feature_detected!("avx")
 }
@@ -23,71 +25,91 @@ fn single_of(half: u16) -> u32 {
     sign << 31 | magnitude
 }
 
-/// The bits of a result, and the control word after.
-type OnSingles = fn(u32, u32) -> (u32, u32);
+type Singles = [u32; 32];
 
-/// The host's control word is set aside and brought back.
+/// The bits of 32 results, and the control word after.
+type OnSingles = fn(&Singles, &Singles, control: u32) -> (Singles, u32);
+
+/// Eight lanes at a time. The host's control word is set aside and brought back.
 macro_rules! on_singles {
     ($instruction:expr) => {
-        |a: u32, b: u32| {
-            let (mut control, mut host) = (ALL_MASKED, 0_u32);
-            let result: u32;
-            // Safety: `are_here` has said that the instructions exist; 4 bytes stand behind each
-            // pointer, and what is changed is named.
+        |a: &Singles, b: &Singles, control: u32| {
+            let (mut control, mut host) = (control, 0_u32);
+            let mut results = [0; 32];
+            // Safety: `are_here` has said that the instructions exist; 128 bytes stand behind each
+            // of the first three pointers, 4 behind the others, and what is changed is named.
             unsafe {
                 asm!(
                     "stmxcsr [{host}]",
                     "ldmxcsr [{control}]",
-                    "vmovd {x}, {a:e}",
-                    "vmovd {y}, {b:e}",
+                    "2:",
+                    "vmovups ymm0, [{a} + {at}]",
+                    "vmovups ymm1, [{b} + {at}]",
                     $instruction,
-                    "vmovd {a:e}, {x}",
+                    "vmovups [{results} + {at}], ymm0",
+                    "add {at}, 32",
+                    "cmp {at}, 128",
+                    "jne 2b",
                     "stmxcsr [{control}]",
                     "ldmxcsr [{host}]",
-                    a = inout(reg) a => result,
+                    "vzeroupper",
+                    a = in(reg) a,
                     b = in(reg) b,
-                    x = out(xmm_reg) _,
-                    y = out(xmm_reg) _,
+                    results = in(reg) &mut results,
+                    at = inout(reg) 0_u64 => _,
                     control = in(reg) &mut control,
                     host = in(reg) &mut host,
+                    out("xmm0") _, out("xmm1") _,
                     options(nostack),
                 );
             }
-            (result, control)
+            (results, control)
         }
     };
 }
 
 macro_rules! predicates {
     ($($number:literal)*) => {
-        [$(on_singles!(concat!("vcmpss {x}, {x}, {y}, ", $number))),*]
+        [$(on_singles!(concat!("vcmpps ymm0, ymm0, ymm1, ", $number))),*]
     };
 }
 
 const COMPARE: [OnSingles; 32] = predicates!(
     0 1 2 3 4 5 6 7 8 9 10 11 12 13 14 15 16 17 18 19 20 21 22 23 24 25 26 27 28 29 30 31
 );
-const MINIMUM: OnSingles = on_singles!("vminss {x}, {x}, {y}");
-const MAXIMUM: OnSingles = on_singles!("vmaxss {x}, {x}, {y}");
+const MINIMUM: OnSingles = on_singles!("vminps ymm0, ymm0, ymm1");
+const MAXIMUM: OnSingles = on_singles!("vmaxps ymm0, ymm0, ymm1");
 
-/// What the processor makes of the singles of a case that does not round, said of its halves.
-pub fn answer(case: &Case) -> Outcome {
-    let [a, b, _] = case.operands;
+/// What the processor makes of the singles of pairs in the lanes of `on`, said of their halves; the
+/// others give 0. The case is to be one that does not round, and its operands count for nothing.
+pub fn pairs(case: &Case, a: &Lanes, b: &Lanes, on: u32, control: u32) -> Pairs {
     let function = match case.operation {
         Operation::Minimum => MINIMUM,
         Operation::Maximum => MAXIMUM,
         _ => COMPARE[case.immediate as usize % 32],
     };
-    let (result, control) = function(single_of(a), single_of(b));
-    let half = match case.operation {
+    let is_on = |lane: usize| on >> lane & 1 == 1;
+    // Zeros raise nothing.
+    let [x, y] =
+        [a, b].map(|halves| from_fn(|lane| single_of(if is_on(lane) { halves[lane] } else { 0 })));
+    let (results, control) = function(&x, &y, control);
+    let half = |lane: usize| match case.operation {
         // All ones or none.
-        Operation::Compare => result as u16 & 1,
-        _ if result == single_of(b) => b,
-        _ if result == single_of(a) => a,
-        _ => panic!("{case}: {result:08X} is neither operand"),
+        Operation::Compare => results[lane] as u16 & 1,
+        _ if results[lane] == y[lane] => b[lane],
+        _ if results[lane] == x[lane] => a[lane],
+        _ => panic!("{case}, lane {lane}: {:08X} is neither", results[lane]),
     };
+    let halves = from_fn(|lane| if is_on(lane) { half(lane) } else { 0 });
+    Pairs { halves, control }
+}
+
+/// The same of a case's own operands.
+pub fn answer(case: &Case) -> Outcome {
+    let [a, b, _] = case.operands;
+    let Pairs { halves, control } = pairs(case, &[a; 32], &[b; 32], 1, ALL_MASKED);
     Outcome {
-        half,
+        half: halves[0],
         flags: (control & 63) as u8,
         number: 0,
     }
