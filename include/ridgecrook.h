@@ -134,6 +134,9 @@ ridgecrook_rounded ridgecrook_fused_multiply_add(uint16_t a, uint16_t b, uint16_
  * Of minimum and maximum any NaN raises RIDGECROOK_IE; of a comparison a signalling NaN does, and a
  * quiet one if the predicate signals. Without a NaN a subnormal operand raises RIDGECROOK_DE. No
  * other flag is raised (R6.27).
+ *
+ * VMINPH, VMAXPH and VCMPPH do the same in each lane, with a from the first source and b from the
+ * second.
  */
 
 /* a where it is less than b, and else b as it is: also where one of them is a NaN, signalling or
@@ -201,6 +204,11 @@ typedef struct {
  *   memory, memory_length    What stands at the addresses 0 to memory_length - 1; only read. All
  *                            other addresses lie outside memory (R1.8).
  *
+ * The bit b of the prefix (EVEX.b, R3.8): with memory, one word serves all lanes (broadcast). With
+ * registers the vector has 32 lanes, whatever the length bits say: these are the rounding mode then
+ * (embedded rounding), and all exceptions count as masked. Of VMINPH, VMAXPH and VCMPPH, which
+ * round nothing, it has the latter effect alone: it suppresses exceptions.
+ *
  * What each answer leaves:
  *
  *   RIDGECROOK_DONE       The destination is written. Of a packed instruction lanes that are off
@@ -211,17 +219,17 @@ typedef struct {
  *                         it is a mask, k0 too, of which all 64 bits are written: bit j is lane
  *                         j's answer, and 0 where the lane is off or above the vector (R5.11).
  *                         The flags that lanes that are on raise are set in *control, except under
- *                         embedded rounding, and where b suppresses exceptions (R7.2, R7.5).
+ *                         embedded rounding and where exceptions are suppressed (R7.2, R7.5).
  *                         *pointer has grown by the length, and wraps at 2 to the 64 (R4.15). All
  *                         else is as it was.
- *   RIDGECROOK_EXCEPTION  A lane that is on raised an exception whose mask bit is 0 (R7.3);
- *                         embedded rounding has all masked, and so has b with registers of VMINPH,
- *                         VMAXPH and VCMPPH (R7.5). Of the flags that lanes that are on raise,
- *                         masked exceptions' too, these are set in *control (R7.4): where IE, DE or
- *                         ZE is raised with its mask bit 0, only those of the three that are
- *                         raised, in whatever lane, since nothing is rounded then; else all. (The
- *                         processors tried leave PE out in one case, R7.6.) All else is as it was.
- *                         Flags that *control had before count for nothing.
+ *   RIDGECROOK_EXCEPTION  A lane that is on raised an exception whose mask bit is 0 (R7.3); with
+ *                         embedded rounding and suppression all are masked (R7.5). Of the flags
+ *                         that lanes that are on raise, masked exceptions' too, these are set in
+ *                         *control (R7.4): where IE, DE or ZE is raised with its mask bit 0, only
+ *                         those of the three that are raised, in whatever lane, since nothing is
+ *                         rounded then; else all. (The processors tried leave PE out in one case,
+ *                         R7.6.) All else is as it was. Flags that *control had before count for
+ *                         nothing.
  *   every other number    All is as it was (R4.16).
  *
  * If there is cause for several answers, the first in this order is given (R4.3 to R4.14):

@@ -247,7 +247,7 @@ const SUPPRESSION: &[Row] = &[
         "code=62F37478C2CA01 control=00000000 z1=7E00,0001,3C00x30 z2=3C00x2,4000x30",
         "0 7 pointer=7 k1=FFFFFFFE",
     ),
-    // It masks nothing away, and each lane has its own second half: no broadcast.
+    // The writemask counts as ever, and each lane has its own second half: no broadcast.
     (
         "code=62F574195DC2 control=00000000 k1=80000001 z0=1111x32 z1=4400x32 z2=3C00,4000x31",
         "0 6 pointer=6 z0=3C00,1111x30,4000",
@@ -514,6 +514,14 @@ const EXCEPTIONS: &[Row] = &[
     (
         "code=62F37409C2D21B k1=2 k2=FFFF z1=7C01,7E00,0001,3C00 z2=3C00x3,4000",
         "0 7 control=00001F81 pointer=7 k2=0",
+    ),
+    (
+        "code=62F37409C2D21F k1=2 z1=7C01,7E00,0001,3C00 z2=3C00x3,4000",
+        "0 7 control=00001F81 pointer=7 k2=2",
+    ),
+    (
+        "code=62F37409C2D20B k1=6 k2=FFFF z1=7C01,7E00,0001,3C00 z2=3C00x3,4000",
+        "0 7 control=00001F82 pointer=7 k2=0",
     ),
     (
         "code=62F37409C2D20F k1=6 z1=7C01,7E00,0001,3C00 z2=3C00x3,4000",

@@ -164,8 +164,9 @@ fn mode_and_subnormal_bits() {
         |mut outcome, step| {
             let machine = &mut outcome.after.machine;
             let kept = machine.control & UNREAD == step.machine.control & UNREAD;
+            assert!(kept, "a bit that is no flag changes: {step}");
             machine.control &= !UNREAD;
-            (kept, left(outcome))
+            left(outcome)
         },
     );
 }
@@ -178,7 +179,9 @@ fn what_the_mask_held() {
         44,
         |steps, step, instruction| {
             let written = instruction.written_mask();
-            let Some(number) = written.filter(|&number| number != instruction.mask) else {
+            // Mask 0 is no writemask.
+            let is_read = |number| number == instruction.mask && number != 0;
+            let Some(number) = written.filter(|&number| !is_read(number)) else {
                 return Vec::new();
             };
             let mut other = step.clone();
@@ -198,7 +201,7 @@ fn what_the_mask_held() {
     );
 }
 
-/// Other halves, signalling NaNs in many of them, in each lane of every register that is off, and
+/// Other halves, signalling NaNs many of them, in each lane that is off, of every register, and
 /// other bytes of memory but for those of words that are read.
 fn changed_elsewhere(steps: &mut Steps, step: &Step, instruction: &Instruction) -> Step {
     let mut other = step.clone();

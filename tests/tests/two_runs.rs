@@ -63,7 +63,8 @@ fn seen(outcome: &StepOutcome, hidden: u32) -> (Answer, [u64; 26], Vec<u16>) {
     (outcome.answer, numbers, open_lanes(machine, hidden))
 }
 
-/// Both runs go on from what the last step left. Hands back the rows that were done in them.
+/// Both runs go on from what the last step left. Hands back how many steps of each row were done in
+/// the first, of either program.
 fn run(steps: &mut Steps, answers: &mut Answers) -> [u32; LIST.len()] {
     let hidden = steps.random.bits() as u32;
     let (machine, memory) = start(steps, hidden);

@@ -3,23 +3,21 @@
 -- Assumes nothing.
 use Prim.Native.Nat.{ℕ, _<_}
 use mathlib.Core.Path.{_≡_, refl, sym, ap, _∙_}
-use mathlib.Core.Logic.{_≢_}
 use mathlib.Core.Bool.{Bool, true, false, not, _&&_, Bool·beq, not-eq-not}
 use mathlib.Core.List.{List}
 use native.Mathlib.Omega.{arith}
 use borrow.Author.Tests.{ltb-false}
 use Rattle.lists.specs.Lists.{some}
 use Rattle.evex.specs.List.{rows, operation, shape}
-use Rattle.evex.specs.Fields.{headOf, listed, destination, registerB, vectorLanes, destinationOf, elements, rounding, instruction}
+use Rattle.evex.specs.Fields.{headOf, listed, destination, vectorLanes, destinationOf, elements, rounding, instruction}
 use Rattle.evex.specs.Decode.{zeroingMask, noSuchMask, reservedForms, decoded}
-use Rattle.evex.specs.Compared.{Destinations, SuppressedForms}
+use Rattle.evex.specs.Compared.{Destinations, ByB, SuppressedForms}
 use Rattle.evex.specs.declared.head.Head.{Head}
 use Rattle.evex.specs.declared.list.Row.{Row}
 use Rattle.evex.specs.declared.list.Listed.the-variants.{Found}
 use Rattle.evex.specs.declared.Operation.{Operation}
 use Rattle.evex.specs.declared.Operation.the-variants.{Add, Multiply, Subtract, Divide, SquareRoot, Fused132, Fused213, Fused231}
 use Rattle.evex.specs.declared.Operation.the-variants.{Minimum, Maximum, Compare}
-use Rattle.evex.specs.declared.Rounding.the-variants.{Control, Suppressed}
 use Rattle.evex.specs.declared.Destination.the-variants.{Vector, Mask}
 use Rattle.evex.specs.declared.Instruction.{Instruction}
 use Rattle.evex.specs.declared.Decoded.the-variants.{Fields}
@@ -126,21 +124,28 @@ packed-is h row found t =
     let none : passesTest oneSuppresses (listed h) ≡ false = none-found oneSuppresses rows _ _ _ _ none-one in
     rw (found, t) at none
 
-by-b : (h : Head) (row : Row) → shape row .suppresses ≡ true → shape row .scalar ≡ false → rounding h row ≢ Control
-    → (rounding h row ≡ Suppressed) × (elements h row ≡ 32)
+-- what its fields give
+by-b : (h : Head) (row : Row) {i : Instruction} → i .shape ≡ shape row → i .rounding ≡ rounding h row → i .elements ≡ elements h row
+    → (shape row .suppresses ≡ true → shape row .scalar ≡ false) → ByB h i
 unfolding rounding elements vectorLanes
-by-b h row t p n = go (registerB h) refl
-  where
-    go : (b : Bool) → registerB h ≡ b → (rounding h row ≡ Suppressed) × (elements h row ≡ 32)
-    go true e = rw (e, t, p) (refl, refl)
-    go false e = absurd (n (rw e))
+by-b h row s r n packed =
+    record {
+      suppresses = λ b t.
+          let u : shape row .suppresses ≡ true = rw s at t in
+          (r ∙ rw (b, u), n ∙ rw (packed u, b));
+      rounds = λ b t.
+          let u : shape row .suppresses ≡ false = rw s at t in
+          r ∙ rw (b, u);
+      control = λ b. r ∙ rw b;
+    }
 
 pub suppressed-forms : SuppressedForms
 unfolding instruction
-suppressed-forms code i e t n =
+suppressed-forms code i e =
     let h : Head = headOf code in
     let w = whole code e in
-    let row : shape (w .row) .suppresses ≡ true = ap (λ (i : Instruction). i .shape .suppresses) (sym (w .is)) ∙ t in
-    let rounds : i .rounding ≡ rounding h (w .row) = ap (λ (i : Instruction). i .rounding) (w .is) in
-    let so = by-b h (w .row) row (packed-is h (w .row) (w .found) row) (λ r. n (rounds ∙ r)) in
-    (rounds ∙ so .0, ap (λ (i : Instruction). i .elements) (w .is) ∙ so .1)
+    by-b h (w .row)
+    (ap (λ (i : Instruction). i .shape) (w .is))
+    (ap (λ (i : Instruction). i .rounding) (w .is))
+    (ap (λ (i : Instruction). i .elements) (w .is))
+    (packed-is h (w .row) (w .found))

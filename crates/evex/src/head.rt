@@ -260,7 +260,7 @@ impl Head {
         find(prefix, map, w, self.opcode)
     }
 
-    // R4.10: length bits 3, unless they hold a mode.
+    // R4.10: length bits 3, but for b in register form.
     pub(crate) fn has_reserved_length(self) -> bool
         ensures { λ r. ⌜ r ≡ reservedLength self ⌝ }
     {

@@ -29,9 +29,9 @@ pub enum Operation {
     Compare,
 }
 
-// What a row says beyond what finds it and its operation (R2.2, R3.6 to R3.8): whether there is one element, whether there is a first
-// source, whether the destination is an operand too; whether b in register form only suppresses exceptions, whether the destination is a
-// mask, and whether there is an immediate.
+// What a row says beyond what finds it and its operation (R2.2, R3.6 to R3.8, R3.15): whether there is one element, whether there
+// is a first source, whether the destination is an operand too; whether b in register form only suppresses exceptions, whether the
+// destination is a mask, and whether there is an immediate.
 pub struct Shape {
     pub scalar: bool,
     pub first: bool,

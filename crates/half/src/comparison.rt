@@ -89,7 +89,7 @@ fn holds(p: Predicate, a: u16, b: u16) -> bool
     )
 }
 
-// R6.27: invalid says whether a NaN is.
+// R6.27: IE where there is a NaN and it is invalid, and else DE where there is a subnormal.
 fn flags(invalid: bool, a: u16, b: u16) -> u8
     ensures { λ r. ⌜ r ≡ comparisonFlags invalid a b ⌝ }
 {

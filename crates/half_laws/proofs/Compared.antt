@@ -1,23 +1,61 @@
 -- Each law of specs/Comparison.antt and its proof, in the order of that file.
-use Prim.Native.Nat.{ℕ, _%_, _<_}
+use Prim.Native.Nat.{ℕ, _+_, _-_, _%_, _^_, _<_}
 use mathlib.Core.Bool.{Bool, true, false, cond, and-eq-true-iff, false≢true}
 use mathlib.Core.List.{List, [], _∷_}
 use mathlib.Core.Logic.{inl, inr}
 use mathlib.Core.Path.{_≡_, refl, sym, ap, _∙_}
 use native.Mathlib.Omega.{arith}
-use borrow.Author.Tests.{eqb-true, le-ltb, ltb-true}
+use native.Mathlib.Decide.{decLt}
+use borrow.Author.Tests.{eqb-true, eq-eqb, lt-ltb, le-ltb, ltb-true, not-true}
+use lib.Dec.{eqb}
 use lib.Bits.{bitXor, xor-mod}
 use lib.IntN.{ℤ, pos, negsuc}
 use lib.ListN.{getD}
 use lib.Signed.{ltZ, _≤ℤ_, ≤ℤ-refl, ltZ-no}
 use Rattle.lists.specs.Lists.{some, table}
 use Rattle.lists.proofs.Tables.{getD-table}
-use Rattle.half.specs.Format.{exponentField, fractionField, negative, isNan, isZero, units, value}
+use Rattle.lists.proofs.Tests.{either}
+use Rattle.half.specs.Format.{exponentField, fractionField, negative, isNan, isZero, units, value, infinity}
+use Rattle.half.specs.Work.{rankOf}
+use Rattle.half.proofs.Ranks.{ranked}
 use Rattle.half.specs.Comparison.{less, equal, greater, unordered, relation, lesser, larger, halfMinimum, halfMaximum}
 use Rattle.half.specs.Comparison.{predicates, predicateOf}
 use Rattle.half.specs.declared.comparison.Predicate.{Predicate}
-use Rattle.half_laws.specs.Comparison.{IsMinimum, IsMaximum, MinimumLaw, MaximumLaw, SecondLaw, opposite, twin, OppositeLaw, TwinLaw}
+use Rattle.half_laws.specs.Comparison.{InfinityLaw, IsMinimum, IsMaximum, MinimumLaw, MaximumLaw, SecondLaw}
+use Rattle.half_laws.specs.Comparison.{opposite, twin, OppositeLaw, TwinLaw}
 use Rattle.half_laws.proofs.Signed.{zero-signed}
+
+-- ---- infinities, by ranks: those of finite halves lie between
+
+module _ (h : ℕ) (finite : eqb (exponentField h) 31 ≡ false) where
+  fields-below : h % 2 ^ 15 < 0x7C00
+  fields-below =
+      elim (decLt (h % 2 ^ 15) 0x7C00) [
+        | yes l ↦ l
+        | no l ↦ absurd (false≢true (sym finite ∙ eq-eqb (exponentField h) 31 (omega arith)))
+      ]
+
+  rank-below : rankOf h < 2 ^ 15 + 0x7C00
+  rank-below = either (λ n. n < 2 ^ 15 + 0x7C00) (negative h) (omega (arith, fields-below)) (omega (arith, fields-below))
+
+  rank-above : 2 ^ 15 - 0x7C00 < rankOf h
+  rank-above = either (λ n. 2 ^ 15 - 0x7C00 < n) (negative h) (omega (arith, fields-below)) (omega (arith, fields-below))
+
+  between : (relation h (infinity false) ≡ less) × (relation h (infinity true) ≡ greater)
+  unfolding relation
+  between = (
+    rw (finite, ← ranked h (infinity false), lt-ltb (rankOf h) (2 ^ 15 + 0x7C00) rank-below),
+    rw (
+      finite,
+      ← ranked h (infinity true),
+      ← ranked (infinity true) h,
+      le-ltb (rankOf h) (2 ^ 15 - 0x7C00) (omega (arith, rank-above)),
+      lt-ltb (2 ^ 15 - 0x7C00) (rankOf h) rank-above,
+    ),
+  )
+
+pub infinities : InfinityLaw
+infinities h f = between h (not-true _ f)
 
 -- ---- at most one of two numbers is less than the other
 

@@ -1,5 +1,5 @@
--- docs/RULES.md, R6.26 and R6.28: what minimum and maximum give, as numbers, and how the predicates pair off. proofs/Compared.antt has a
--- proof of each law under the law's name.
+-- docs/RULES.md, R6.25, R6.26 and R6.28: infinities among the numbers, what minimum and maximum give, and how the predicates pair off.
+-- proofs/Compared.antt has a proof of each law under the law's name.
 use Prim.Native.Nat.{ℕ}
 use mathlib.Core.Bool.{true, false, not}
 use mathlib.Core.List.{[], _∷_}
@@ -7,10 +7,14 @@ use mathlib.Core.Logic.{_⊎_}
 use mathlib.Core.Path.{_≡_}
 use lib.Bits.{bitXor}
 use Rattle.lists.specs.Lists.{some}
-use Rattle.half.specs.Format.{isNan, isZero}
-use Rattle.half.specs.Comparison.{halfMinimum, halfMaximum, predicateOf}
+use Rattle.half.specs.Format.{isFinite, isNan, isZero, infinity}
+use Rattle.half.specs.Comparison.{less, greater, relation, halfMinimum, halfMaximum, predicateOf}
 use Rattle.half.specs.declared.comparison.Predicate.{Predicate}
 use Rattle.half_laws.specs.Values.{HalfLe}
+
+-- ---- R6.25: an infinity is beyond every finite half
+abbrev pub InfinityLaw : Type 0
+InfinityLaw = (h : ℕ) → isFinite h ≡ true → (relation h (infinity false) ≡ less) × (relation h (infinity true) ≡ greater)
 
 -- ---- R6.26: two halves of which neither is a NaN
 
@@ -32,7 +36,7 @@ MinimumLaw = (a b : ℕ) → some isNan (a ∷ b ∷ []) ≡ false → IsMinimum
 abbrev pub MaximumLaw : Type 0
 MaximumLaw = (a b : ℕ) → some isNan (a ∷ b ∷ []) ≡ false → IsMaximum a b ((halfMaximum a b) .half)
 
--- ---- R6.26: where one is a NaN or both are zeros, the second is handed back as it is
+-- ---- R6.26: with a NaN, or of two zeros, the second is handed back as it is
 abbrev pub SecondLaw : Type 0
 SecondLaw = (a b : ℕ) → (some isNan (a ∷ b ∷ []) ≡ true) ⊎ ((isZero a ≡ true) × (isZero b ≡ true))
     → ((halfMinimum a b) .half ≡ b) × ((halfMaximum a b) .half ≡ b)

@@ -15,7 +15,7 @@ use Rattle.machine.specs.Lanes.{Sources, lanesOn, rounded, operated, elementAt}
 use Rattle.lanes.specs.declared.Results.{Results}
 use Rattle.lanes.specs.declared.Lanes.{Lanes}
 use Rattle.lanes.specs.declared.Way.{Way}
-use Rattle.lanes.specs.declared.Way.the-variants.{EachLane, AllAtOnce}
+use Rattle.lanes.specs.declared.Way.the-variants.{OneByOne, AllAtOnce}
 
 -- halves that are 0 in lanes that are off, and all of them or-ed
 abbrev pub lanesOf : (ℕ → Bool) → (ℕ → ℕ) → Lanes
@@ -40,5 +40,5 @@ pickedAt p compares f x j = rounded (picked p compares (getD f j 0) (getD x j 0)
 
 -- a way is the operation's own
 abbrev pub Serves : Operation → Environment → Way → Type 0
-Serves op e EachLane = Unit {0}
+Serves op e OneByOne = Unit {0}
 Serves op e (AllAtOnce p compares) = (d f x : ℕ) → operated op e d f x ≡ rounded (picked p compares f x)

@@ -37,9 +37,9 @@ struct Lanes {
     joined: u16,
 }
 
-// Each lane that is on by itself; or all 32 at once, by what a predicate picks, in vector instructions.
+// The lanes that are on, one by one; or all 32 at once, by what a predicate picks, in vector instructions.
 enum Way {
-    EachLane,
+    OneByOne,
     AllAtOnce {
         predicate: Predicate,
         compares: bool,
@@ -76,7 +76,7 @@ fn operate(operation: Operation, e: Environment, d: u16, f: u16, x: u16) -> Elem
     }
 }
 
-fn each_lane(
+fn one_by_one(
     on: u32,
     operation: Operation,
     e: Environment,
@@ -106,8 +106,8 @@ fn each_lane(
     }
 }
 
-// Whatever is on.
-fn every_lane(predicate: Predicate, compares: bool, f: [u16; 32], x: [u16; 32]) -> Results
+// All 32 lanes, whatever is on.
+fn whole_vector(predicate: Predicate, compares: bool, f: [u16; 32], x: [u16; 32]) -> Results
     ensures { λ r. ⌜ r ≡ resultsBy everyLane (pickedAt predicate compares f x) ⌝ }
 {
     let mut halves = [0u16; 32];
@@ -153,13 +153,13 @@ fn all_at_once(on: u32, predicate: Predicate, compares: bool, f: [u16; 32], x: [
     ensures { λ r. ⌜ r ≡ resultsBy (isSet on) (pickedAt predicate compares f x) ⌝ }
 {
     if on == u32::MAX {
-        return every_lane(predicate, compares, f, x);
+        return whole_vector(predicate, compares, f, x);
     }
     let first = only_on(on, f);
     let second = only_on(on, x);
     let a = first.halves;
     let b = second.halves;
-    let all = every_lane(predicate, compares, a, b);
+    let all = whole_vector(predicate, compares, a, b);
     let every = all.halves;
     let left = only_on(on, every);
     let halves = left.halves;
@@ -170,12 +170,12 @@ fn all_at_once(on: u32, predicate: Predicate, compares: bool, f: [u16; 32], x: [
     }
 }
 
-// Of few lanes each by itself is sooner done.
+// Where no lane above 2 is on, one by one is sooner done.
 fn way_of(on: u32, operation: Operation, e: Environment) -> Way
     ensures { λ r. ⌜ Serves operation e r ⌝ }
 {
     if on < 8 {
-        return Way::EachLane;
+        return Way::OneByOne;
     }
     match operation {
         Operation::Minimum => Way::AllAtOnce {
@@ -190,7 +190,7 @@ fn way_of(on: u32, operation: Operation, e: Environment) -> Way
             predicate: comparison::predicate_of(e.immediate as u32),
             compares: true,
         },
-        _ => Way::EachLane,
+        _ => Way::OneByOne,
     }
 }
 
@@ -209,7 +209,7 @@ pub fn all_lanes(
         compares,
     } = way_of(on, operation, e)
     else {
-        return each_lane(on, operation, e, d, f, x);
+        return one_by_one(on, operation, e, d, f, x);
     };
     all_at_once(on, predicate, compares, f, x)
 }

@@ -28,7 +28,8 @@ pub record InOrder (cs : List (Bool × ℕ)) (n : ℕ) : Type 0 where
   -- any other number exactly when its condition holds and no earlier one does
   pub given : (k : ℕ) → k ≢ 0 → (n ≡ k) ↔ IsFirst cs k
 
--- R4.15, R4.16, R4.17: what a step leaves that was given the state s. (The new vector file is in VectorFile.antt.)
+-- R4.15, R4.16, R4.17: what a step leaves that was given the state s. (The new vector file is in VectorFile.antt, the new masks are in
+-- Masks.antt.)
 pub record Leaves (s : State) (o : Stepped) : Type 0 where
   -- R4.15, of the pointer
   pub moved : o .answer .number ≡ 0 → o .state .pointer ≡ (s .pointer + o .answer .length) % 2 ^ 64

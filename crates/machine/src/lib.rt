@@ -1,4 +1,5 @@
-// The machine's own types; its meaning is in specs/, and what is proved of it in proofs/. The code of a step stands in the crate `step`.
+// The machine's own types; its meaning is in specs/, and what is proved of it in proofs/. The code of a step stands in the
+// crates `sources`, `lanes`, `store` and `step`.
 use half::Mode;
 
 // What every step hands back: the number of its answer (R4.1) and the instruction's length in bytes (R4.17).

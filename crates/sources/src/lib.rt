@@ -1,5 +1,5 @@
-// The three sources (R5.3, R5.5), each as 32 halves by value. Registers are read whole: what a lane that is off has does not count, as
-// nothing is computed for it (R5.2). Memory is read only where a lane is on.
+// The three sources (R5.3, R5.5), each as 32 halves by value. Registers are read whole, though what a lane that is off has does not count
+// (R5.2): nothing is computed from it. Memory is read only where a lane is on.
 ghost use mathlib.Core.Path.{_≡_};
 ghost use mathlib.Core.Bool.{false, cond};
 ghost use mathlib.Core.List.{[], _∷_};

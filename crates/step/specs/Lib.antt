@@ -1,2 +1,2 @@
--- What the contracts of a step's parts say; the step's own is machine's `step`.
+-- What the contracts of the private functions say, of what the crates below compute; the step's own is machine's `step`.
 pub mod Work

@@ -1,6 +1,6 @@
 //! Every pair of halves: add, subtract, multiply and divide in the four modes, and without a mode
-//! minimum, maximum and the comparisons LE_OQ and NGE_UQ, of which unordered halves pass the second
-//! alone. The library is held against the processor.
+//! minimum, maximum and the comparisons LE_OQ and NGE_UQ, which together tell less, equal, greater
+//! and unordered apart. The library is held against the processor.
 //! `cargo run --release --bin exhaustive -- [options]`
 //!
 //!   --operation NAME  only this one (add, subtract, multiply, divide, minimum, maximum, le_oq,
@@ -10,8 +10,8 @@
 //!
 //! Compared are the half of every pair, the flags of each 32 lanes together, and in one block of 64
 //! the flags of each lane alone (all exceptions masked). Where the processor has not the
-//! instructions, those that compare are held against its singles (`processor/singles.rs`), and the
-//! others, on one block in 4,096, against the second program.
+//! instructions, those that compare are held against its singles (`processor/singles.rs`), if it has
+//! AVX, and all others, on one block in 4,096, against the second program.
 //!
 //! An operation and mode that is finished whole and without a difference is noted in
 //! target/exhaustive/finished.txt, for the library that was linked, and passed over from then on.
@@ -46,7 +46,7 @@ const FIRSTS: u64 = 1 << 16;
 const BLOCKS: u64 = 1 << 11;
 
 /// In one block of so many the flags of each lane are compared alone.
-const SINGLE: u64 = 64;
+const ALONE: u64 = 64;
 
 /// Where the second program takes the processor's place.
 const SHARE_OF_SECOND: u64 = 4096;
@@ -71,7 +71,7 @@ fn main() {
         let before = progress.pairs.load(Ordering::Relaxed);
         let differences = task.run(&progress);
         let pairs = progress.pairs.load(Ordering::Relaxed) - before;
-        let (name, witness) = (task.name(), task.witness.name());
+        let (name, witness) = (task.label(), task.witness.name());
         println!("{name}, by {witness}: {pairs} pairs, {differences} blocks differ");
         failed += u64::from(differences > 0);
         if pairs == 1 << 32 && differences == 0 {
@@ -166,7 +166,7 @@ impl Options {
                 };
                 let known = task.note();
                 if task.share == 1 && finished.lines().any(|line| line == known) {
-                    println!("{}: finished before", task.name());
+                    println!("{}: finished before", task.label());
                 } else {
                     tasks.push(task);
                 }
@@ -243,11 +243,11 @@ struct Task {
 impl Task {
     /// The line of what was finished.
     fn note(&self) -> String {
-        let (name, witness) = (self.name(), self.witness.name());
+        let (name, witness) = (self.label(), self.witness.name());
         format!("{name} library {LINKED} witness {witness}, {}", model())
     }
 
-    fn name(&self) -> String {
+    fn label(&self) -> String {
         match self.case.operation.rounds() {
             true => format!("{} m{}", self.name, self.case.mode),
             false => self.name.to_string(),
@@ -284,9 +284,9 @@ impl Task {
     fn with_first(&self, a: u64, differences: &AtomicU64) -> u64 {
         let mut compared = 0;
         for block in (self.first_block(a)..BLOCKS).step_by(self.share as usize) {
-            let single = (a + block).is_multiple_of(SINGLE);
+            let each_alone = (a + block).is_multiple_of(ALONE);
             let lanes = Block::of(a as u16, 32 * block as u16);
-            let differs = self.differs(&lanes, single);
+            let differs = self.differs(&lanes, each_alone);
             if differs && differences.fetch_add(1, Ordering::Relaxed) < PRINTED {
                 self.print(&lanes);
             }
@@ -300,21 +300,21 @@ impl Task {
         (a.wrapping_mul(0x9E37_79B9_7F4A_7C15) >> 32) % self.share
     }
 
-    fn case(&self, a: u16, b: u16) -> Case {
+    fn case_of(&self, a: u16, b: u16) -> Case {
         Case {
             operands: [a, b, 0],
             ..self.case
         }
     }
 
-    fn differs(&self, block: &Block, single: bool) -> bool {
+    fn differs(&self, block: &Block, each_alone: bool) -> bool {
         let (pairs, flags) = self.library(block);
         if pairs != self.asked(block, u32::MAX) {
             return true;
         }
         let control = self.control();
         let alone = |lane: usize| self.asked(block, 1 << lane).control;
-        single && (0..32).any(|lane| alone(lane) != control | u32::from(flags[lane]))
+        each_alone && (0..32).any(|lane| alone(lane) != control | u32::from(flags[lane]))
     }
 
     fn control(&self) -> u32 {
@@ -365,7 +365,7 @@ impl Task {
     fn second(&self, block: &Block, on: u32) -> Pairs {
         let (mut halves, mut control) = ([0; 32], self.control());
         for lane in (0..32).filter(|lane| on >> lane & 1 == 1) {
-            let outcome = second::answer(&self.case(block.a[lane], block.b[lane]));
+            let outcome = second::answer(&self.case_of(block.a[lane], block.b[lane]));
             halves[lane] = outcome.half;
             control |= u32::from(outcome.flags);
         }
@@ -389,11 +389,11 @@ impl Task {
                 number: flags >> 6,
             };
             if library != other {
-                let case = self.case(block.a[lane], block.b[lane]);
+                let case = self.case_of(block.a[lane], block.b[lane]);
                 println!("{case} => {library} expected {other}");
             }
         }
-        let (name, a, [b, .., last]) = (self.name(), block.a[0], block.b);
+        let (name, a, [b, .., last]) = (self.label(), block.a[0], block.b);
         println!("{name}: the block {a:04X} and {b:04X} to {last:04X} differs");
     }
 }

@@ -24,7 +24,8 @@ macro_rules! on_pairs {
             let mut halves = [0; 32];
             let (mut control, mut host) = (control, 0_u32);
             // Safety: the caller knows that the instructions exist; 64 bytes stand behind each of
-            // the three pointers, 4 behind the others, and what is changed is named.
+            // the three pointers, 4 behind the others, and what is changed is named, the upper
+            // halves of all registers too.
             unsafe {
                 asm!(
                     "stmxcsr [{host}]",
@@ -43,7 +44,10 @@ macro_rules! on_pairs {
                     halves = in(reg) &mut halves,
                     control = in(reg) &mut control,
                     host = in(reg) &mut host,
-                    out("xmm0") _, out("xmm1") _, out("xmm2") _, out("k1") _,
+                    out("xmm0") _, out("xmm1") _, out("xmm2") _, out("xmm3") _, out("xmm4") _,
+                    out("xmm5") _, out("xmm6") _, out("xmm7") _, out("xmm8") _, out("xmm9") _,
+                    out("xmm10") _, out("xmm11") _, out("xmm12") _, out("xmm13") _,
+                    out("xmm14") _, out("xmm15") _, out("k1") _,
                     options(nostack),
                 );
             }
@@ -83,7 +87,10 @@ macro_rules! on_pairs_to_mask {
                     bits = inout(reg) bits => mask,
                     control = in(reg) &mut control,
                     host = in(reg) &mut host,
-                    out("xmm1") _, out("xmm2") _, out("k1") _, out("k2") _,
+                    out("xmm0") _, out("xmm1") _, out("xmm2") _, out("xmm3") _, out("xmm4") _,
+                    out("xmm5") _, out("xmm6") _, out("xmm7") _, out("xmm8") _, out("xmm9") _,
+                    out("xmm10") _, out("xmm11") _, out("xmm12") _, out("xmm13") _,
+                    out("xmm14") _, out("xmm15") _, out("k1") _, out("k2") _,
                     options(nostack),
                 );
             }

@@ -1,6 +1,7 @@
-//! Minimum, maximum and the 32 predicates of singles by this machine's processor, which most have
-//! that know no halves. The predicates are the same (R6.28), so they speak for those of halves too:
-//! each half has a single of its own kind, and these stand in the order of their halves.
+//! Minimum, maximum and the 32 predicates of singles by this machine's processor, which nearly all
+//! processors have that know no halves. The predicates are the same (R6.28), so they speak for those
+//! of halves too: each half has a single of its own kind, and these stand in the order of their
+//! halves.
 
 use super::pairs::{Lanes, Pairs};
 use crate::case::{Case, Operation, Outcome};
@@ -37,7 +38,8 @@ macro_rules! on_singles {
             let (mut control, mut host) = (control, 0_u32);
             let mut results = [0; 32];
             // Safety: `are_here` has said that the instructions exist; 128 bytes stand behind each
-            // of the first three pointers, 4 behind the others, and what is changed is named.
+            // of the first three pointers, 4 behind the others, and what is changed is named, the
+            // upper halves of all registers too.
             unsafe {
                 asm!(
                     "stmxcsr [{host}]",
@@ -59,7 +61,10 @@ macro_rules! on_singles {
                     at = inout(reg) 0_u64 => _,
                     control = in(reg) &mut control,
                     host = in(reg) &mut host,
-                    out("xmm0") _, out("xmm1") _,
+                    out("xmm0") _, out("xmm1") _, out("xmm2") _, out("xmm3") _, out("xmm4") _,
+                    out("xmm5") _, out("xmm6") _, out("xmm7") _, out("xmm8") _, out("xmm9") _,
+                    out("xmm10") _, out("xmm11") _, out("xmm12") _, out("xmm13") _,
+                    out("xmm14") _, out("xmm15") _,
                     options(nostack),
                 );
             }

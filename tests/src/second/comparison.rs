@@ -37,8 +37,8 @@ pub fn answer(case: &Case) -> Option<(u16, u8)> {
     Some((half, flags(case.used_operands(), signals)))
 }
 
-/// R6.27: IE for a signalling NaN, for a quiet one where that is signalled; DE where there is no
-/// NaN.
+/// R6.27: IE for a signalling NaN, for a quiet one where that is signalled; DE for a subnormal where
+/// there is no NaN.
 fn flags(operands: &[u16], signals: bool) -> u8 {
     let some = |is: fn(u16) -> bool| operands.iter().any(|&half| is(half));
     if some(is_signalling) || some(is_nan) && signals {

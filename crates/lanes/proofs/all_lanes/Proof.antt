@@ -16,8 +16,8 @@ enum-known-predicate c = search needs
 enum-told : tie.Need-enum-told
 enum-told c = search needs
 
-each-lane-requires : tie.Need-each-lane-requires
-each-lane-requires c κs = search needs
+one-by-one-requires : tie.Need-one-by-one-requires
+one-by-one-requires c κs = search needs
 
 returns : tie.Need-returns
 returns c = search needs
@@ -39,7 +39,7 @@ all-lanes-spec =
     way-of-requires
     enum-known-predicate
     enum-told
-    each-lane-requires
+    one-by-one-requires
     returns
     all-at-once-requires
     returns-2)

@@ -1,11 +1,11 @@
--- `lanes::every_lane` meets its contract: the loop fills the results lane by lane, and or-s the halves and the flags.
+-- `lanes::whole_vector` meets its contract: the loop fills the results lane by lane, and or-s the halves and the flags.
 use Prim.Native.Nat.{_-_}
 use mathlib.Core.Path.{refl}
 use native.Mathlib.Omega.{arith}
 use Rattle.lists.proofs.Filling.{Filled, none, more, full, Ored, or-none, or-more, or-full}
 use Rattle.lanes.specs.Work.{resultsBy, pickedAt}
-use Rattle.lanes.proofs.every_lane.Statement.{statement}
-use Rattle.lanes.proofs.every_lane.Tie as tie
+use Rattle.lanes.proofs.whole_vector.Statement.{statement}
+use Rattle.lanes.proofs.whole_vector.Tie as tie
 
 abbrev Inv-loop : tie.InvT-loop
 Inv-loop predicate compares f x halves₀ joined₀ flags₀ j₀ halves joined flags j =
@@ -67,8 +67,8 @@ returns c =
       flags = or-full (inv .2) (inv .0 .within) end i;
     }
 
-pub every-lane-spec : {M : Type 1} → statement M
-every-lane-spec =
+pub whole-vector-spec : {M : Type 1} → statement M
+whole-vector-spec =
     tie.close
     (tie.spec
     Inv-loop

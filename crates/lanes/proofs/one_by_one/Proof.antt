@@ -1,4 +1,4 @@
--- `lanes::each_lane` meets its contract: the loop fills the results lane by lane, and or-s the halves and the flags; no lane is on
+-- `lanes::one_by_one` meets its contract: the loop fills the results lane by lane, and or-s the halves and the flags; no lane is on
 -- behind them.
 use Prim.Native.Nat.{_-_, _<_}
 use mathlib.Core.Path.{refl, _∙_, sym}
@@ -13,8 +13,8 @@ use Rattle.machine.specs.Lanes.{elementAt}
 use Rattle.lanes.specs.Work.{resultsBy}
 use Rattle.lists.proofs.Filling.{Filled, none, more, same, all, Ored, or-none, or-more, or-same, or-all}
 use borrow.Author.Needs.{needs}
-use Rattle.lanes.proofs.each_lane.Statement.{statement}
-use Rattle.lanes.proofs.each_lane.Tie as tie
+use Rattle.lanes.proofs.one_by_one.Statement.{statement}
+use Rattle.lanes.proofs.one_by_one.Tie as tie
 
 abbrev Inv-loop : tie.InvT-loop
 Inv-loop on operation e d f x halves₀ joined₀ flags₀ end j₀ halves joined flags j =
@@ -110,8 +110,8 @@ returns c =
           (λ k h. rw (bit-above _ _ k (end .0) (le-trans (c .loop-test .left) h))) i;
     }
 
-pub each-lane-spec : {M : Type 1} → statement M
-each-lane-spec =
+pub one-by-one-spec : {M : Type 1} → statement M
+one-by-one-spec =
     tie.close
     (tie.spec
     Inv-loop
