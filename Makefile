@@ -4,7 +4,7 @@
 # make bench     speed, side by side with plain Rust
 # make witness   a million instructions by this machine's processor and the library (RIDGECROOK_STEPS)
 # make exhaustive  every pair of halves by both, half an hour on a core; options in ARGUMENTS. Without AVX512-FP16: comparisons alone,
-#                by singles, in some three minutes, and a sample of the rest by the second program
+#                by singles, in two minutes, and a sample of the rest by the second program
 LIBRARY := target/staticlib/libridgecrook.a
 MADE := $(LIBRARY) target/bin/run target/stamp/half_laws
 SOURCES := crates.txt $(shell find crates -type f -not -path "*/must-fail/*")
