@@ -163,7 +163,7 @@ static const compared COMPARED[] = {
     {0x0001, 0x3C00, {0x0001, DE, DONE}, {0x3C00, DE, DONE}, EQ_OQ, {0, DE, DONE}},
     {0x0000, 0x8001, {0x8001, DE, DONE}, {0x0000, DE, DONE}, LT_OQ, {0, DE, DONE}},
     {0x0001, 0x7E00, {0x7E00, IE, DONE}, {0x7E00, IE, DONE}, UNORD_Q, {1, 0, DONE}},
-    /* bits 5 and up of the immediate */
+    /* an immediate with higher bits too, which count for nothing */
     {0x3C00, 0x4000, {0x3C00, 0, DONE}, {0x4000, 0, DONE}, 0x20 | LT_OS, {1, 0, DONE}},
     {0x3C00, 0x4000, {0x3C00, 0, DONE}, {0x4000, 0, DONE}, 0x100 | EQ_OQ, {0, 0, DONE}},
     {0x3C00, 0x4000, {0x3C00, 0, DONE}, {0x4000, 0, DONE}, 0xFFFFFFE0u | LT_OQ, {1, 0, DONE}},

@@ -152,7 +152,7 @@ const COMPARED: &[Row] = &[
     ("compare i17 0001 0002", "0001 .D...."),
     ("compare i11 8001 3C00", "0000 .D...."),
     ("compare i15 3C00 0001", "0001 .D...."),
-    // R8.5: bits 5 and up of the immediate are not read.
+    // R8.5: an immediate with higher bits too, which count for nothing.
     ("compare i32 3C00 3C00", "0001 ......"),
     ("compare i4294967265 3C00 4000", "0001 ......"),
     ("compare i2147483648 3C00 4000", "0000 ......"),

@@ -154,7 +154,7 @@ const MASKS: &[Row] = &[
         "0 7 pointer=7 k0=FF",
     ),
     ("code=62F37408C2C20B k0=FF k1=FF", "0 7 pointer=7 k0=0"),
-    // The writemask: zeros for lanes that are off, and for its bits above the length.
+    // The writemask: a lane that it switches off gives 0, and so do its bits behind the last lane.
     (
         "code=62F3740AC2CA0F k1=FFFFFFFFFFFFFFFF k2=FFFFFFFFFFFFFF0A",
         "0 7 pointer=7 k1=A",
@@ -185,8 +185,8 @@ const MASKS: &[Row] = &[
     ),
 ];
 
-/// R3.15: the low five bits of the immediate; what follows it has no effect. Lane 0 is less, the
-/// others are equal.
+/// R3.15: what the immediate picks, by its lowest five bits alone, and bytes behind it. Lane 0 is
+/// less, the others are equal.
 const IMMEDIATES: &[Row] = &[
     ("code=62F37408C2CA01 z1=3C00 z2=4000", "0 7 pointer=7 k1=1"),
     ("code=62F37408C2CA21 z1=3C00 z2=4000", "0 7 pointer=7 k1=1"),

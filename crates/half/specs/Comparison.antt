@@ -24,11 +24,7 @@ relation a b =
     (cond (ltZ (value b) (value a)) greater
     equal))
 
--- ---- R6.27: the flags: IE or none where there is a NaN, by whether it is invalid, and else DE for a subnormal
-abbrev pub comparisonFlags : Bool → ℕ → ℕ → ℕ
-comparisonFlags invalid a b = cond (some isNan (a ∷ b ∷ [])) (flag IE invalid) (flag DE (some isSubnormal (a ∷ b ∷ [])))
-
--- ---- R6.26: minimum and maximum
+-- ---- R6.26: which of the two is handed back, by how a compares with b
 
 -- a where it is less, and else b as it is
 abbrev pub lesser : Relation → ℕ → ℕ → ℕ
@@ -44,7 +40,11 @@ larger equal a b = b
 larger greater a b = a
 larger unordered a b = b
 
--- R6.26, R6.27: any NaN is invalid
+-- ---- R6.27: the flags: IE or none where there is a NaN, by whether it is invalid, and else DE for a subnormal
+abbrev pub comparisonFlags : Bool → ℕ → ℕ → ℕ
+comparisonFlags invalid a b = cond (some isNan (a ∷ b ∷ [])) (flag IE invalid) (flag DE (some isSubnormal (a ∷ b ∷ [])))
+
+-- R6.26, R6.27: minimum and maximum, of which any NaN is invalid
 unfoldable pub halfMinimum : ℕ → ℕ → Outcome
 halfMinimum a b = result (lesser (relation a b) a b) (comparisonFlags true a b)
 

@@ -10,7 +10,7 @@ use Rattle.half.specs.Comparison.{predicateOf}
 use Rattle.half.specs.Work.{picked}
 use Rattle.half.specs.declared.comparison.Predicate.{Predicate}
 use Rattle.half.proofs.Predicates.{minimum-is, maximum-is, compare-is}
-use Rattle.lists.specs.Lists.{orAll, table}
+use Rattle.lists.specs.Lists.{orAll}
 use Rattle.lists.proofs.Tests.{either-equal}
 use Rattle.lists.proofs.Tables.{table-equal, getD-table}
 use Rattle.evex.specs.Bits.{isSet}
@@ -26,33 +26,27 @@ use Rattle.lanes.specs.declared.Lanes.{Lanes}
 use Rattle.lanes.specs.declared.Way.the-variants.{AllAtOnce}
 use Rattle.lanes.specs.Work.{lanesOf, resultsBy, pickedAt, Serves}
 
--- ---- results are alike where the lanes that are on are
+-- ---- results are alike where each lane leaves the same
 
+results-same : (on other : ℕ → Bool) (lane laneToo : ℕ → Element)
+    → ((of : Element → ℕ) (j : ℕ) → j < 32 → cond (on j) (of (lane j)) 0 ≡ cond (other j) (of (laneToo j)) 0)
+    → resultsBy on lane ≡ resultsBy other laneToo
+unfolding resultsBy
+results-same on other lane laneToo same = λ i.
+    record {
+      halves = table-equal 32 (same (λ r. r .value)) i;
+      joined = ap orAll (table-equal 32 (same (λ r. r .value))) i;
+      flags = ap orAll (table-equal 32 (same (λ r. r .flags))) i;
+    }
+
+-- where the lanes that are on are alike
 pub results-alike : (on : ℕ → Bool) {lane other : ℕ → Element} → ((j : ℕ) → j < 32 → on j ≡ true → lane j ≡ other j)
     → resultsBy on lane ≡ resultsBy on other
-unfolding resultsBy
-results-alike on {lane} {other} same = λ i.
-    record {
-      halves = each (λ (r : Element). r .value) i;
-      joined = ap orAll (each (λ (r : Element). r .value)) i;
-      flags = ap orAll (each (λ (r : Element). r .flags)) i;
-    }
-  where
-    each : (of : Element → ℕ) → lanesOn on (λ j. of (lane j)) ≡ lanesOn on (λ j. of (other j))
-    each of = table-equal 32 (λ j h. either-equal 0 (on j) (λ t. ap of (same j h t)))
+results-alike on {lane} {other} same = results-same on on lane other (λ of j h. either-equal 0 (on j) (λ t. ap of (same j h t)))
 
 -- every lane, where all are on
 pub all-on : {on : ℕ} → on ≡ 2 ^ 32 - 1 → (lane : ℕ → Element) → resultsBy everyLane lane ≡ resultsBy (isSet on) lane
-unfolding resultsBy
-all-on {on} e lane = λ i.
-    record {
-      halves = each (λ j. lane j .value) i;
-      joined = ap orAll (each (λ j. lane j .value)) i;
-      flags = ap orAll (each (λ j. lane j .flags)) i;
-    }
-  where
-    each : (f : ℕ → ℕ) → table 32 f ≡ lanesOn (isSet on) f
-    each f = table-equal 32 (λ j h. sym (rw (e, ones-bit 32 j, lt-ltb j 32 h)))
+all-on {on} e lane = results-same everyLane (isSet on) lane lane (λ of j h. sym (rw (e, ones-bit 32 j, lt-ltb j 32 h)))
 
 -- ---- zeros where a lane is off, which raise nothing
 

@@ -57,11 +57,7 @@ module _ {f : ℕ → ℕ} {n : ℕ} {d l : List ℕ} {j : ℕ} (F : Filled f n 
             | no y ↦ let q : k ≡ j = omega arith in rw q (F .left j (omega arith) ∙ e)
           ]
 
-  -- where the loop goes through all of them, all is f's,
-  pub full : n ≤ j → l ≡ table n f
-  full h = is-table n f 0 l (F .size) (λ k m. F .filled k (omega arith))
-
-  -- and where it ends before, if d's own is from there on
+  -- the loop ends, and d's own is f's from there on
   pub all : ((k : ℕ) → j ≤ k → k < n → getD d k 0 ≡ f k) → l ≡ table n f
   all rest = is-table n f 0 l (F .size) at-each
     where
@@ -71,6 +67,10 @@ module _ {f : ℕ → ℕ} {n : ℕ} {d l : List ℕ} {j : ℕ} (F : Filled f n 
             | yes y ↦ F .filled k y
             | no y ↦ let g : j ≤ k = omega arith in F .left k g ∙ rest k g m
           ]
+
+  -- or it has gone through all of them
+  pub full : n ≤ j → l ≡ table n f
+  full h = all (λ k m l. absurd (omega arith))
 
 -- what no index from j on changes
 stays : {A : Type 0} (g : ℕ → A) (j n : ℕ) → j ≤ n → ((i : ℕ) → j ≤ i → g (i + 1) ≡ g i) → g n ≡ g j

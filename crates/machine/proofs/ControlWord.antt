@@ -2,7 +2,7 @@
 -- a step leaves that word, be the answer 0 or 8, and the laws are put together.
 -- Assumes nothing.
 use Prim.Native.Nat.{ℕ, _+_, _<_, _≤_, _^_}
-use mathlib.Core.Path.{_≡_, refl, sym, ap, _∙_}
+use mathlib.Core.Path.{_≡_, refl, sym, _∙_}
 use mathlib.Core.Logic.{_↔_, _≢_, _⊎_, inl, inr, ⊎-elim, ⊎-map, Iff·rfl, Iff·trans, Iff·not, Iff·and}
 use mathlib.Core.Bool.{Bool, true, false, cond, not, _||_, and-eq-true-iff, or-false, true≢false, false≢true}
 use mathlib.Core.List.{List}
@@ -63,11 +63,14 @@ recorded-bit : (r : Rounding) (control flags f : ℕ) → r ≡ Control
     → isSet (recorded r control (added r control flags)) f ≡ (isSet control f || isSet (added Control control flags) f)
 recorded-bit r control flags f e = rw e (or-bit control (added Control control flags) f)
 
+none-raised : (flags : ℕ) → not (eqb (bitAnd flags 0) 0) ≡ false
+none-raised flags = rw (and-zero-r flags)
+
 recorded-silent : (r : Rounding) (control flags : ℕ) → r ≢ Control
     → (raises r control flags ≡ false) × (recorded r control (added r control flags) ≡ control)
 recorded-silent Control control flags n = absurd (n refl)
-recorded-silent (Embedded mode) control flags n = (ap (λ (n : ℕ). not (eqb n 0)) (and-zero-r flags), refl)
-recorded-silent Suppressed control flags n = (ap (λ (n : ℕ). not (eqb n 0)) (and-zero-r flags), refl)
+recorded-silent (Embedded mode) control flags n = (none-raised flags, refl)
+recorded-silent Suppressed control flags n = (none-raised flags, refl)
 
 -- nothing above the flags
 recorded-above : (r : Rounding) (control flags n : ℕ) → flags < 64 → 6 ≤ n → isSet (recorded r control flags) n ≡ isSet control n

@@ -40,10 +40,15 @@ use Rattle.machine.proofs.OffLanes.{element-below}
 
 -- ---- the results of a comparison are binary digits
 
-pub compared-digit : (op : Operation) → op ≡ Compare → (e : Environment) (d f x : ℕ) → operated op e d f x .value ≤ 1
+compared-digit : (op : Operation) → op ≡ Compare → (e : Environment) (d f x : ℕ) → operated op e d f x .value ≤ 1
 unfolding operated halfCompare
 compared-digit op c e d f x =
     rw c (either (λ n. n ≤ 1) (holds (predicateOf (e .immediate)) (relation f x)) (lit≤ tt) (lit≤ tt))
+
+-- and so is what a lane gives, on or off
+pub lane-digit : (s : State) (i : Instruction) (g : Sources) → i .operation ≡ Compare → (j : ℕ)
+    → cond (on s i j) (laneOf s i g j .value) 0 ≤ 1
+lane-digit s i g c j = either (λ n. n ≤ 1) (on s i j) (compared-digit (i .operation) c _ _ _ _) (lit≤ tt)
 
 module _ (s : State) (code : List ℕ) (i : Instruction) (fields : decoded code ≡ Fields i) (compares : i .operation ≡ Compare) (g : Sources)
   where
@@ -55,7 +60,7 @@ module _ (s : State) (code : List ℕ) (i : Instruction) (fields : decoded code 
     digits =
         each-of (table 32 lane) (λ x m.
         let k = member-table 32 lane m in
-        rw (k .2) (either (λ n. n ≤ 1) (on s i (k .0)) (compared-digit (i .operation) compares _ _ _ _) (lit≤ tt)))
+        rw (k .2) (lane-digit s i g compares (k .0)))
 
     -- a lane that is on, and gives 1
     is-lane : (j : ℕ) → (getD (results s i g) j 0 ≡ 1) ↔ (SwitchesOn s i j × (laneOf s i g j .value ≡ 1))

@@ -1,13 +1,13 @@
 -- What the parts of a step compute is what the machine defines.
 -- Assumes nothing.
-use Prim.Native.Nat.{ℕ, _/_, _%_, _^_, _<_, _≤_}
+use Prim.Native.Nat.{ℕ, _/_, _%_, _^_, _<_}
 use mathlib.Core.Path.{_≡_, refl, sym, ap, _∙_}
 use mathlib.Core.Bool.{Bool, true, false, cond, not, _&&_, true≢false, false≢true}
 use mathlib.Core.List.{List, [], _∷_}
 use native.Mathlib.Nat.{zero-div}
 use native.Mathlib.Omega.{arith}
 use borrow.Author.Tests.{ltb-false}
-use lib.Dec.{ltb, lit≤}
+use lib.Dec.{ltb}
 use lib.ListN.{length, getD, set}
 use lib.Seq.{paste}
 use Rattle.evex.specs.declared.Operation.{Operation}
@@ -21,7 +21,6 @@ use Rattle.evex.specs.declared.Decoded.the-variants.{Fields}
 use Rattle.evex.specs.Decode.{decoded}
 use Rattle.evex.proofs.Bounds.{Bounds}
 use Rattle.lists.specs.Lists.{orAll, binary}
-use Rattle.lists.proofs.Tests.{either}
 use Rattle.lists.proofs.Tables.{table-equal, getD-table}
 use Rattle.machine.specs.declared.Located.{Located}
 use Rattle.machine.specs.declared.Located.the-variants as place
@@ -34,7 +33,7 @@ use Rattle.machine.specs.Lanes.{copied, zeroed, upperFrom, fill, filled, newReg
 use Rattle.machine.specs.Step.{refused, stopped, completed, step}
 use Rattle.machine.proofs.Ends.{refuses-memory, stops, completes}
 use Rattle.machine.proofs.OffLanes.{above-off}
-use Rattle.machine.proofs.Masks.{compared-digit}
+use Rattle.machine.proofs.Masks.{lane-digit}
 use Rattle.lanes.specs.declared.Results.{Results}
 use Rattle.sources.specs.Work.{everyLane, secondGathered}
 use Rattle.lanes.specs.Work.{resultsBy, resultsWhere}
@@ -150,19 +149,13 @@ module _ (s : State) (i : Instruction) (g : Sources) where
 
   -- ---- a mask: what a comparison gives are its digits
 
-  digit-at : i .operation ≡ Compare → (j : ℕ) → j < 32 → getD (results s i g) j 0 ≤ 1
-  unfolding results
-  digit-at c j h =
-      rw (getD-table 32 (λ j. cond (on s i j) (laneOf s i g j .value) 0) j 0 h)
-      (either (λ n. n ≤ 1) (on s i j) (compared-digit (i .operation) c _ _ _ _) (lit≤ tt))
-
   mask-is : i .operation ≡ Compare → lowestBits (results s i g) ≡ binary (results s i g)
   unfolding results
   mask-is c =
+      let lane : ℕ → ℕ = λ j. cond (on s i j) (laneOf s i g j .value) 0 in
       ap binary (table-equal 32 (λ j h.
-      let k : getD (results s i g) j 0 ≤ 1 = digit-at c j h in
-      let own : getD (results s i g) j 0 % 2 ≡ getD (results s i g) j 0 = omega arith in
-      own ∙ getD-table 32 (λ j. cond (on s i j) (laneOf s i g j .value) 0) j 0 h))
+      let own : lane j % 2 ≡ lane j = omega (arith, lane-digit s i g c j) in
+      rw (getD-table 32 lane j 0 h) own))
 
   -- ---- either
 

@@ -59,7 +59,8 @@ finish-requires : tie.Need-finish-requires
 finish-requires c κs =
     let lanes : tie.After-all-lanes = c .before .before .before .before in
     let second : tie.After-second-halves = lanes .before .before .before in
-    let start : tie.Start = second .before .before .before .before .before .before .before .before .before .before .before .before .before .before .before .before in
+    let inside : tie.Else1 = second .before .before .before .before .before .before .before in
+    let start : tie.Start = inside .before .before .before .before .before .before .before .before .before in
     start .pre
 
 same-length : tie.Need-same-length
