@@ -8,8 +8,8 @@ use lib.ListN.{length, take, drop}
 use Rattle.lists.specs.Lists.{table}
 use Rattle.machine.specs.State.{State, Stepped}
 use Rattle.machine.specs.Step.{step}
-use Rattle.saved.specs.Form.{numberIn, savedSize}
-use Rattle.saved.specs.Saved.{load}
+use Rattle.forms.specs.Numbers.{numberIn}
+use Rattle.forms.specs.Saved.{sizeAt, load}
 
 -- ---- R10.4: numbers as text, in ASCII
 
@@ -69,31 +69,31 @@ linesFrom (suc n) memory code s at =
 unfoldable pub blank : State
 blank = record { vectors = table 2048 (λ k. 0); masks = table 8 (λ k. 0); general = table 16 (λ k. 0); control = 0; pointer = 0 }
 
--- behind the saved form: how many bytes of code there are, the code, and memory to the end
+-- behind the saved form, which ends where its own length says (R9.13): how many bytes of code there are, the code, and memory to the end
 abbrev pub codeLength : List ℕ → ℕ
-codeLength input = numberIn input savedSize 2
+codeLength input = numberIn input (sizeAt input) 2
 
 abbrev pub codeOf : List ℕ → List ℕ
-codeOf input = take (codeLength input) (drop (savedSize + 2) input)
+codeOf input = take (codeLength input) (drop (sizeAt input + 2) input)
 
 abbrev pub memoryOf : List ℕ → List ℕ
-memoryOf input = drop (savedSize + 2 + codeLength input) input
+memoryOf input = drop (sizeAt input + 2 + codeLength input) input
 
 -- R10.3: the state that the steps begin with
 abbrev pub startOf : List ℕ → State
-startOf input = load (take savedSize input) blank .state
+startOf input = load (take (sizeAt input) input) blank .state
 
 -- every part is there and has its size
 unfoldable pub isLaidOut : List ℕ → Bool
 isLaidOut input =
-    leb (savedSize + 2) (length input)
+    leb (sizeAt input + 2) (length input)
     && leb (codeLength input) 4096
-    && leb (savedSize + 2 + codeLength input) (length input)
+    && leb (sizeAt input + 2 + codeLength input) (length input)
     && leb (length (memoryOf input)) 32768
 
 -- R10.2: and the saved form loads
 unfoldable pub isGood : List ℕ → Bool
-isGood input = isLaidOut input && eqb (load (take savedSize input) blank .number) 0
+isGood input = isLaidOut input && eqb (load (take (sizeAt input) input) blank .number) 0
 
 -- R10.2: all that is printed
 unfoldable pub printed : List ℕ → List ℕ

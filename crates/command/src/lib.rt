@@ -4,6 +4,7 @@ ghost use Prim.Native.Nat.{_+_, _≤_, _<_};
 ghost use lib.ListN.{length, drop};
 ghost use Rattle.machine.specs.Step.{step};
 ghost use Rattle.machine.specs.State.{stateOf, steppedOf};
+ghost use Rattle.forms.specs.Saved.{sizeAt};
 ghost use Rattle.command.specs.Command.{stepLine, linesFrom, codeLength, isLaidOut, printed, room, commanded, Wrote};
 ghost use Rattle.command.specs.Put.{Put};
 use machine::Answer;
@@ -106,25 +107,26 @@ fn wide(x: u8) -> usize
 }
 
 // R10.1: the code's length, in two bytes behind the saved state.
-fn code_length(input: &[u8]) -> usize
-    requires { ⌜ 2259 ≤ length (now input) ⌝ }
+fn code_length(input: &[u8], behind: usize) -> usize
+    requires { ⌜ (behind ≡ sizeAt (now input)) × (behind + 2 ≤ length (now input)) ⌝ }
     ensures { λ r. ⌜ (r ≡ codeLength (now (input .entry))) × (r < 65536) ⌝ }
 {
-    wide(input[2257]) * 256 + wide(input[2258])
+    wide(input[behind]) * 256 + wide(input[behind + 1])
 }
 
 // R10.1: saved state, code length, code and memory have their sizes.
 fn is_laid_out(input: &[u8]) -> bool
     ensures { λ r. ⌜ r ≡ isLaidOut (now (input .entry)) ⌝ }
 {
-    if input.len() < 2259 {
+    let behind = saved::size_at(input);
+    if input.len() < behind + 2 {
         return false;
     }
-    let length = code_length(input);
+    let length = code_length(input, behind);
     if 4096 < length {
         return false;
     }
-    let end = 2259 + length;
+    let end = behind + 2 + length;
     if input.len() < end {
         return false;
     }
@@ -144,8 +146,9 @@ fn print(input: &[u8], out: &mut [u8]) -> usize
     let mut general = [0u64; 16];
     let mut control = 0u32;
     let mut pointer = 0u64;
+    let behind = saved::size_at(input);
     let number = saved::load(
-        &input[0..2257],
+        &input[0..behind],
         &mut vectors,
         &mut masks,
         &mut general,
@@ -155,14 +158,15 @@ fn print(input: &[u8], out: &mut [u8]) -> usize
     if number != 0 {
         return put_text(out, 0, b"bad input\n");
     }
-    let end = 2259 + code_length(input);
+    let code = behind + 2;
+    let end = code + code_length(input, behind);
     put_lines(
         &mut vectors,
         &mut masks,
         &general,
         &mut control,
         &mut pointer,
-        &input[2259..end],
+        &input[code..end],
         &input[end..],
         out,
     )

@@ -32,8 +32,8 @@ appended (x ∷ xs) ys =
     let up : b * 2 ^ suc n ≡ 2 * (b * 2 ^ n) = rw (pow-succ' 2 n, ← mul-assoc b 2 (2 ^ n), mul-comm b 2) (mul-assoc 2 b (2 ^ n)) in
     rw (appended xs ys, up) (omega arith)
 
-next : (n : ℕ) (f : ℕ → ℕ) → binary (table (n + 1) f) ≡ binary (table n f) + f n * 2 ^ n
-next n f =
+pub binary-next : (n : ℕ) (f : ℕ → ℕ) → binary (table (n + 1) f) ≡ binary (table n f) + f n * 2 ^ n
+binary-next n f =
     let one : binary (f n ∷ []) ≡ f n = omega arith in
     rw (table-next n f, appended (table n f) (f n ∷ []), length-table n f, one)
 
@@ -50,13 +50,16 @@ joined f h (suc n) =
     subst (Joined f) (add-one n)
     (record {
       is =
-          or-next n (λ j. f j * 2 ^ j) ∙ rw (J .is, or-shifted-r (f n) n (binary (table n f)) (J .below), next n f)
+          or-next n (λ j. f j * 2 ^ j) ∙ rw (J .is, or-shifted-r (f n) n (binary (table n f)) (J .below), binary-next n f)
           (add-comm (f n * 2 ^ n) (binary (table n f)));
-      below = rw (next n f, pow-add 2 n 1) (omega (arith, J .below));
+      below = rw (binary-next n f, pow-add 2 n 1) (omega (arith, J .below));
     })
 
 pub or-joined : (n : ℕ) (f : ℕ → ℕ) → ((j : ℕ) → f j ≤ 1) → orAll (table n (λ j. f j * 2 ^ j)) ≡ binary (table n f)
 or-joined n f h = joined f h n .is
+
+pub binary-below : (n : ℕ) (f : ℕ → ℕ) → ((j : ℕ) → f j ≤ 1) → binary (table n f) < 2 ^ n
+binary-below n f h = joined f h n .below
 
 -- ---- 32 digits, of which 16 are put together at a time
 

@@ -6,7 +6,7 @@ ghost use Rattle.half.specs.Operations.{halfAdd, halfSubtract, halfMultiply, ha
 ghost use Rattle.half.specs.Comparison.{halfMinimum, halfMaximum, halfCompare};
 ghost use Rattle.machine.specs.Step.{step};
 ghost use Rattle.machine.specs.State.{stateOf, steppedOf};
-ghost use Rattle.saved.specs.Saved.{save, load};
+ghost use Rattle.forms.specs.Saved.{save, load, move, savedSize, movedSize};
 use half::Mode;
 use machine::Answer;
 use numbers::Rounded;
@@ -101,6 +101,7 @@ pub extern "C" fn ridgecrook_step(
     step::step(vectors, masks, general, control, pointer, code, memory)
 }
 
+// Version 1.
 #[no_mangle]
 pub extern "C" fn ridgecrook_save(
     vectors: &[u8],
@@ -112,10 +113,35 @@ pub extern "C" fn ridgecrook_save(
 ) -> u32
     ensures { λ r. ⌜
         record { number = r; target = now (target .exit) }
-        ≡ save (stateOf (now (vectors .entry)) (now (masks .entry)) (now (general .entry)) control pointer) (now (target .entry))
+        ≡ save 1 (stateOf (now (vectors .entry)) (now (masks .entry)) (now (general .entry)) control pointer) (now (target .entry))
         ⌝ }
 {
-    saved::save(vectors, masks, general, control, pointer, target)
+    saved::save(1, vectors, masks, general, control, pointer, target)
+}
+
+#[no_mangle]
+pub extern "C" fn ridgecrook_save_version(
+    version: u32,
+    vectors: &[u8],
+    masks: &[u64; 8],
+    general: &[u64; 16],
+    control: u32,
+    pointer: u64,
+    target: &mut [u8],
+) -> u32
+    ensures { λ r. ⌜
+        record { number = r; target = now (target .exit) }
+        ≡ save version (stateOf (now (vectors .entry)) (now (masks .entry)) (now (general .entry)) control pointer) (now (target .entry))
+        ⌝ }
+{
+    saved::save(version, vectors, masks, general, control, pointer, target)
+}
+
+#[no_mangle]
+pub extern "C" fn ridgecrook_saved_size(version: u32, vectors: &[u8]) -> usize
+    ensures { λ r. ⌜ r ≡ savedSize version (now (vectors .entry)) ⌝ }
+{
+    saved::saved_size(version, vectors)
 }
 
 #[no_mangle]
@@ -137,4 +163,18 @@ pub extern "C" fn ridgecrook_load(
         ⌝ }
 {
     saved::load(saved, vectors, masks, general, control, pointer)
+}
+
+#[no_mangle]
+pub extern "C" fn ridgecrook_move(version: u32, source: &[u8], target: &mut [u8]) -> u32
+    ensures { λ r. ⌜ record { number = r; target = now (target .exit) } ≡ move version (now (source .entry)) (now (target .entry)) ⌝ }
+{
+    saved::move_form(version, source, target)
+}
+
+#[no_mangle]
+pub extern "C" fn ridgecrook_moved_size(version: u32, source: &[u8]) -> usize
+    ensures { λ r. ⌜ r ≡ movedSize version (now (source .entry)) ⌝ }
+{
+    saved::moved_size(version, source)
 }

@@ -1,11 +1,54 @@
-// The saved form of the machine's state (R9.1 to R9.7).
+// Saved forms of the machine's state (R9.1 to R9.13).
 ghost use mathlib.Core.Path.{_≡_};
-ghost use lib.ListN.{length};
+ghost use Prim.Native.Nat.{_+_, _≤_};
+ghost use lib.ListN.{length, drop};
+ghost use Rattle.lists.specs.Lists.{firstOf};
 ghost use Rattle.machine.specs.State.{stateOf};
-ghost use Rattle.saved.specs.Form.{numbers};
-ghost use Rattle.saved.specs.Saved.{save, load};
+ghost use Rattle.forms.specs.Version.{versionByte, isPacked, versionOf, noVersion};
+ghost use Rattle.forms.specs.Form.{numbers, fileAt, file, savedForm, formSize, loadedState};
+ghost use Rattle.forms.specs.Saved.{save, sizeAt, versionIn, stateIn, sourceConditions, load, move, savedSize, movedSize};
+use forms::Version;
 
+mod file;
+mod packing;
 mod parts;
+
+// ---- the versions (R9.1)
+
+fn version_byte(version: Version) -> u8
+    ensures { λ r. ⌜ r ≡ versionByte version ⌝ }
+{
+    match version {
+        Version::One => 1,
+        Version::Two => 2,
+    }
+}
+
+fn is_packed(version: Version) -> bool
+    ensures { λ r. ⌜ r ≡ isPacked version ⌝ }
+{
+    match version {
+        Version::One => false,
+        Version::Two => true,
+    }
+}
+
+fn version_of(number: u32) -> Version
+    ensures { λ r. ⌜ r ≡ versionOf number ⌝ }
+{
+    if number == 2 {
+        return Version::Two;
+    }
+    Version::One
+}
+
+fn no_version(number: u32) -> bool
+    ensures { λ r. ⌜ r ≡ noVersion number ⌝ }
+{
+    number != version_byte(version_of(number)) as u32
+}
+
+// ---- saving
 
 // Control word, pointer, general registers and masks over the 204 bytes of a part.
 fn put_numbers(part: &mut [u8], control: u32, pointer: u64, general: &[u64; 16], masks: &[u64; 8])
@@ -18,8 +61,38 @@ fn put_numbers(part: &mut [u8], control: u32, pointer: u64, general: &[u64; 16],
     parts::put_registers(&mut part[140..204], masks);
 }
 
-// R9.4: the state into the target. 0, or the number of what is wrong first, with the target as it was.
+// R9.9: how many bytes a form with this vector file has.
+fn form_size(version: Version, vectors: &[u8]) -> usize
+    requires { ⌜ length (now vectors) ≡ 2048 ⌝ }
+    ensures { λ r. ⌜ r ≡ formSize version (now (vectors .entry)) ⌝ }
+{
+    209 + file::file_length(is_packed(version), vectors)
+}
+
+// A state's form over a target of its size.
+fn put_form(
+    target: &mut [u8],
+    version: Version,
+    vectors: &[u8],
+    masks: &[u64; 8],
+    general: &[u64; 16],
+    control: u32,
+    pointer: u64,
+)
+    requires { ⌜ (length (now vectors) ≡ 2048) × (length (now target) ≡ formSize version (now vectors)) ⌝ }
+    ensures { λ _. ⌜ now (target .exit)
+        ≡ savedForm version (stateOf (now (vectors .entry)) (now (masks .entry)) (now (general .entry)) control pointer) ⌝ }
+{
+    let end = target.len();
+    parts::put_number(&mut target[0..4], (end - 4) as u64);
+    parts::put_number(&mut target[4..5], version_byte(version) as u64);
+    put_numbers(&mut target[5..209], control, pointer, general, masks);
+    file::put_file(&mut target[209..end], is_packed(version), vectors);
+}
+
+// R9.4: the state into the target, in the version that has a number. 0, or the number of what is wrong first, with the target as it was.
 pub fn save(
+    version: u32,
     vectors: &[u8],
     masks: &[u64; 8],
     general: &[u64; 16],
@@ -29,23 +102,86 @@ pub fn save(
 ) -> u32
     ensures { λ r. ⌜ record { number = r; target = now (target .exit) }
         ≡ save
+        version
         (stateOf (now (vectors .entry)) (now (masks .entry)) (now (general .entry)) control pointer)
         (now (target .entry)) ⌝ }
 {
+    if no_version(version) {
+        return 10;
+    }
     if vectors.len() != 2048 {
         return 1;
     }
-    if target.len() != 2257 {
+    let form = version_of(version);
+    if target.len() != form_size(form, vectors) {
         return 1;
     }
     if 0x1_0000 <= control {
         return 2;
     }
-    parts::put_number(&mut target[0..4], 2253);
-    parts::put_number(&mut target[4..5], 1);
-    put_numbers(&mut target[5..209], control, pointer, general, masks);
-    parts::copy(&mut target[209..2257], vectors);
+    put_form(target, form, vectors, masks, general, control, pointer);
     0
+}
+
+// R9.12: how many bytes a save needs.
+pub fn saved_size(version: u32, vectors: &[u8]) -> usize
+    ensures { λ r. ⌜ r ≡ savedSize version (now (vectors .entry)) ⌝ }
+{
+    if no_version(version) {
+        return 0;
+    }
+    if vectors.len() != 2048 {
+        return 0;
+    }
+    form_size(version_of(version), vectors)
+}
+
+// ---- loading
+
+// R9.13: where the form ends that these bytes begin with.
+pub fn size_at(bytes: &[u8]) -> usize
+    ensures { λ r. ⌜ r ≡ sizeAt (now (bytes .entry)) ⌝ }
+{
+    if bytes.len() < 4 {
+        return 4 + parts::read_number(bytes) as usize;
+    }
+    4 + parts::read_number(&bytes[0..4]) as usize
+}
+
+// R9.5: the number of what is wrong first with bytes that are to be read, 0 for nothing. No form has less than 213.
+fn source_number(saved: &[u8]) -> u32
+    ensures { λ r. ⌜ r ≡ firstOf (sourceConditions (now (saved .entry))) 0 ⌝ }
+{
+    if saved.len() < 213 {
+        return 10;
+    }
+    let version = saved[4] as u32;
+    if no_version(version) {
+        return 10;
+    }
+    let packed = is_packed(version_of(version));
+    if saved.len() != 209 + file::file_size(packed, &saved[209..]) {
+        return 10;
+    }
+    if size_at(saved) != saved.len() {
+        return 10;
+    }
+    if file::is_wrong(packed, &saved[209..]) {
+        return 10;
+    }
+    if 0x1_0000 <= parts::read_number(&saved[5..9]) {
+        return 2;
+    }
+    0
+}
+
+// The vector file of a form that is right.
+fn read_vectors(saved: &[u8], vectors: &mut [u8])
+    requires { ⌜ (length (now vectors) ≡ 2048) × (firstOf (sourceConditions (now saved)) 0 ≡ 0) ⌝ }
+    ensures { λ _. ⌜ now (vectors .exit) ≡ stateIn (now (saved .entry)) .vectors ⌝ }
+{
+    let packed = is_packed(version_of(saved[4] as u32));
+    file::read_file(packed, &saved[209..], vectors);
 }
 
 // R9.5: the state that the bytes hold, into what is lent. 0, or the number of what is wrong first, with the state as it was.
@@ -68,23 +204,66 @@ pub fn load(
     if vectors.len() != 2048 {
         return 1;
     }
-    if saved.len() != 2257 {
-        return 10;
+    let number = source_number(saved);
+    if number != 0 {
+        return number;
     }
-    if parts::read_number(&saved[0..4]) != 2253 {
-        return 10;
-    }
-    if saved[4] != 1 {
-        return 10;
-    }
-    let word = parts::read_number(&saved[5..9]);
-    if 0x1_0000 <= word {
-        return 2;
-    }
-    *control = word as u32;
+    *control = parts::read_number(&saved[5..9]) as u32;
     *pointer = parts::read_number(&saved[9..17]);
     parts::read_registers(&saved[17..145], general);
     parts::read_registers(&saved[145..209], masks);
-    parts::copy(vectors, &saved[209..2257]);
+    read_vectors(saved, vectors);
     0
+}
+
+// ---- moving
+
+// R9.10: the state that the source holds into the target, in the version that has a number. 0, or the number of what is wrong first, with
+// the target as it was.
+pub fn move_form(version: u32, source: &[u8], target: &mut [u8]) -> u32
+    ensures { λ r. ⌜ record { number = r; target = now (target .exit) } ≡ move version (now (source .entry)) (now (target .entry)) ⌝ }
+{
+    if no_version(version) {
+        return 10;
+    }
+    let mut vectors = [0u8; 2048];
+    let mut masks = [0u64; 8];
+    let mut general = [0u64; 16];
+    let mut control = 0u32;
+    let mut pointer = 0u64;
+    let number = load(
+        source,
+        &mut vectors,
+        &mut masks,
+        &mut general,
+        &mut control,
+        &mut pointer,
+    );
+    if number != 0 {
+        return number;
+    }
+    save(
+        version,
+        &vectors,
+        &masks,
+        &general,
+        control,
+        pointer,
+        target,
+    )
+}
+
+// R9.12: how many bytes a move needs.
+pub fn moved_size(version: u32, source: &[u8]) -> usize
+    ensures { λ r. ⌜ r ≡ movedSize version (now (source .entry)) ⌝ }
+{
+    if no_version(version) {
+        return 0;
+    }
+    if source_number(source) != 0 {
+        return 0;
+    }
+    let mut vectors = [0u8; 2048];
+    read_vectors(source, &mut vectors);
+    form_size(version_of(version), &vectors)
 }

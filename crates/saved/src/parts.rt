@@ -3,7 +3,8 @@ ghost use mathlib.Core.Path.{_≡_};
 ghost use Prim.Native.Nat.{_*_, _/_, _%_, _^_, _≤_, _<_};
 ghost use lib.ListN.{length};
 ghost use Rattle.lists.specs.Lists.{table};
-ghost use Rattle.saved.specs.Form.{big, valueFrom, numberIn, registers};
+ghost use Rattle.forms.specs.Numbers.{big, valueFrom, numberIn, registers};
+ghost use Rattle.forms.specs.File.{zeros};
 
 fn wide(x: u8) -> u64
     ensures { λ r. ⌜ (r ≡ x) × (r < 256) ⌝ }
@@ -34,7 +35,7 @@ pub(crate) fn put_number(part: &mut [u8], x: u64)
 // The number that a part stands for.
 pub(crate) fn read_number(part: &[u8]) -> u64
     requires { ⌜ length (now part) ≤ 8 ⌝ }
-    ensures { λ r. ⌜ r ≡ valueFrom 0 (now (part .entry)) ⌝ }
+    ensures { λ r. ⌜ (r ≡ valueFrom 0 (now (part .entry))) × (r < 256 ^ length (now (part .entry))) ⌝ }
 {
     let mut x = 0;
     for k in 0..part.len() {
@@ -74,5 +75,14 @@ pub(crate) fn copy(part: &mut [u8], bytes: &[u8])
 {
     for k in 0..bytes.len() {
         part[k] = bytes[k];
+    }
+}
+
+// Zeros over a part.
+pub(crate) fn clear(part: &mut [u8])
+    ensures { λ _. ⌜ now (part .exit) ≡ zeros (length (now (part .entry))) ⌝ }
+{
+    for k in 0..part.len() {
+        part[k] = 0;
     }
 }

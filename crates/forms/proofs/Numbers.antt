@@ -12,7 +12,7 @@ use lib.Dec.{lit≤}
 use lib.ListN.{length, getD, take}
 use lib.Pow.{pow-add}
 use lib.Seq.{take-suc, take-all}
-use Rattle.saved.specs.Form.{big, valueFrom}
+use Rattle.forms.specs.Numbers.{big, valueFrom}
 use Rattle.lists.specs.Lists.{Each}
 
 pub power-pos : (n : ℕ) → 0 < 256 ^ n
@@ -60,7 +60,7 @@ value-from y (b ∷ l) =
     let z : 0 * 256 + b ≡ b = omega arith in
     value-from (y * 256 + b) l ∙ rw (z, value-from b l, pow-succ' 256 (length l)) (shifted y b (256 ^ length l) (valueFrom 0 l))
 
-value-below : (l : List ℕ) → Each (λ b. b < 256) l → valueFrom 0 l < 256 ^ length l
+pub value-below : (l : List ℕ) → Each (λ b. b < 256) l → valueFrom 0 l < 256 ^ length l
 unfolding valueFrom
 value-below [] h = power-pos 0
 value-below (b ∷ l) h =
@@ -89,30 +89,3 @@ big-value-from y (b ∷ l) h =
 
 pub big-value : (n : ℕ) (l : List ℕ) → length l ≡ n → Each (λ b. b < 256) l → big n (valueFrom 0 l) ≡ l
 big-value n l e h = rw (← e) (big-value-from 0 l h)
-
--- ---- a loop that reads a number
-
--- x is the number of the first k bytes
-pub record Reading (l : List ℕ) (x k : ℕ) : Type 0 where
-  pub few : length l ≤ 8
-  pub within : k ≤ length l
-  pub is : x ≡ valueFrom 0 (take k l)
-  pub below : x < 256 ^ k
-
-pub nothing-read : (l : List ℕ) → length l ≤ 8 → Reading l 0 0
-unfolding valueFrom
-nothing-read l h = record { few = h; within = omega arith; is = refl; below = power-pos 0 }
-
-module _ {l : List ℕ} {x k : ℕ} where
-  below-next : Reading l x k → {b : ℕ} → b < 256 → x * 256 + b < 256 ^ (k + 1)
-  below-next R {b} s = rw (add-one k, pow-suc 256 k) (digits-lt (R .below) s)
-
-  -- one byte more fits 64 bits
-  pub next-fits : Reading l x k → {b : ℕ} → k < length l → b < 256 → x * 256 + b < 2 ^ 64
-  next-fits R h s = lt-of-lt-of-le (below-next R s) (pow-le-pow-right {n = 256} (lit≤ tt) {i = k + 1} {j = 8} (omega arith))
-
-  pub next-read : Reading l x k → {b : ℕ} → k < length l → b ≡ getD l k 0 → b < 256 → Reading l (x * 256 + b) (k + 1)
-  next-read R h e s = record { few = R .few; within = omega arith; is = rw (R .is, e) (sym (value-next l k h)); below = below-next R s }
-
-  pub all-read : Reading l x k → length l ≤ k → x ≡ valueFrom 0 l
-  all-read R h = R .is ∙ ap (valueFrom 0) (take-all k l h)

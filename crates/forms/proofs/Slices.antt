@@ -38,12 +38,12 @@ module _ {A : Type 0} where
 
 -- ---- what holds of each element
 
-each-take : (P : ℕ → Type 0) (n : ℕ) (l : List ℕ) → Each P l → Each P (take n l)
+pub each-take : (P : ℕ → Type 0) (n : ℕ) (l : List ℕ) → Each P l → Each P (take n l)
 each-take P zero l h = tt
 each-take P (suc n) [] h = tt
 each-take P (suc n) (x ∷ l) h = (h .0, each-take P n l (h .1))
 
-each-drop : (P : ℕ → Type 0) (n : ℕ) (l : List ℕ) → Each P l → Each P (drop n l)
+pub each-drop : (P : ℕ → Type 0) (n : ℕ) (l : List ℕ) → Each P l → Each P (drop n l)
 each-drop P zero l h = h
 each-drop P (suc n) [] h = tt
 each-drop P (suc n) (x ∷ l) h = each-drop P n l (h .1)
@@ -55,3 +55,7 @@ pub each-at : (P : ℕ → Type 0) (l : List ℕ) (k d : ℕ) → Each P l → k
 each-at P [] k d h i = absurd (omega arith)
 each-at P (x ∷ l) zero d h i = h .0
 each-at P (x ∷ l) (suc k) d h i = each-at P l k d (h .1) (omega arith)
+
+pub each-from : (P : ℕ → Type 0) (l : List ℕ) (d : ℕ) → ((k : ℕ) → k < length l → P (getD l k d)) → Each P l
+each-from P [] d h = tt
+each-from P (x ∷ l) d h = (h 0 (omega arith), each-from P l d (λ k i. h (suc k) (omega arith)))

@@ -1,16 +1,19 @@
 -- Where the parts of the saved form stand: the code writes them there one after another, and they are read there again.
 -- Assumes nothing.
 use Prim.Native.Nat.{ℕ, _+_}
-use mathlib.Core.Path.{_≡_, refl, _∙_}
+use mathlib.Core.Path.{_≡_, refl, sym, ap, _∙_}
 use mathlib.Core.List.{List, [], _∷_, _++_}
 use native.Mathlib.Omega.{arith}
 use lib.ListN.{length, take, drop, length-append}
-use lib.Seq.{take-all, drop-at}
+use lib.Seq.{take-all, take-at, drop-at, drop-drop}
 use Rattle.machine.specs.State.{State}
-use Rattle.saved.specs.Form.{big, registers, numbers, savedForm}
-use Rattle.saved.proofs.Slices.{part-first, part-second}
-use Rattle.saved.proofs.Numbers.{length-big}
-use Rattle.saved.proofs.Registers.{length-registers}
+use Rattle.forms.specs.declared.Version.{Version}
+use Rattle.forms.specs.Version.{versionByte}
+use Rattle.forms.specs.Numbers.{big, registers}
+use Rattle.forms.specs.Form.{numbers, file, content, savedForm, formSize}
+use Rattle.forms.proofs.Slices.{part-first, part-second}
+use Rattle.forms.proofs.Numbers.{length-big}
+use Rattle.forms.proofs.Registers.{length-registers}
 
 -- ---- the numbers
 
@@ -54,45 +57,43 @@ module _ (control pointer : ℕ) (general masks : List ℕ) where
 
 -- ---- the saved form
 
-module _ (s : State) where
-  all-numbers : List ℕ
+module _ (v : Version) (s : State) where
+  abbrev all-numbers : List ℕ
   all-numbers = numbers (s .control) (s .pointer) (s .general) (s .masks)
 
-  length-all-numbers : length all-numbers ≡ 204
-  unfolding all-numbers
-  length-all-numbers = length-numbers (s .control) (s .pointer) (s .general) (s .masks)
+  abbrev bytes-of-file : List ℕ
+  bytes-of-file = file v .put (s .vectors)
 
-  to-version : length (big 4 2253 ++ (1 ∷ [])) ≡ 5
-  to-version = length-append (big 4 2253) (1 ∷ []) ∙ rw (length-big 4 2253)
+  pub length-content : length (content v s) ≡ 205 + length bytes-of-file
+  unfolding content
+  length-content =
+      omega (arith, length-append all-numbers bytes-of-file, length-numbers (s .control) (s .pointer) (s .general) (s .masks))
 
-  to-numbers : length (big 4 2253 ++ (1 ∷ []) ++ all-numbers) ≡ 209
-  to-numbers = length-append (big 4 2253 ++ (1 ∷ [])) all-numbers ∙ rw (to-version, length-all-numbers)
+  length-first : length (big 4 (length (content v s))) ≡ 4
+  length-first = length-big 4 (length (content v s))
 
-  pub length-saved : length (savedForm s) ≡ 209 + length (s .vectors)
-  unfolding savedForm all-numbers
-  length-saved = length-append (big 4 2253 ++ (1 ∷ []) ++ all-numbers) (s .vectors) ∙ rw to-numbers
+  pub length-saved : length (savedForm v s) ≡ formSize v (s .vectors)
+  unfolding savedForm formSize
+  length-saved = length-append (big 4 (length (content v s))) (content v s) ∙ omega (arith, length-first, length-content)
 
-  pub length-there : take 4 (drop 0 (savedForm s)) ≡ big 4 2253
-  unfolding savedForm all-numbers
-  length-there =
-      part-first 0 4 (big 4 2253 ++ (1 ∷ []) ++ all-numbers) (s .vectors) (omega (arith, to-numbers))
-      ∙ part-first 0 4 (big 4 2253 ++ (1 ∷ [])) all-numbers (omega (arith, to-version))
-      ∙ part-first 0 4 (big 4 2253) (1 ∷ []) (omega (arith, length-big 4 2253))
-      ∙ take-all 4 (big 4 2253) (omega (arith, length-big 4 2253))
+  pub length-there : take 4 (drop 0 (savedForm v s)) ≡ big 4 (length (content v s))
+  unfolding savedForm
+  length-there = take-at (big 4 (length (content v s))) (content v s) 4 length-first
 
-  pub version-there : take 1 (drop 4 (savedForm s)) ≡ 1 ∷ []
-  unfolding savedForm all-numbers
-  version-there =
-      part-first 4 1 (big 4 2253 ++ (1 ∷ []) ++ all-numbers) (s .vectors) (omega (arith, to-numbers))
-      ∙ part-first 4 1 (big 4 2253 ++ (1 ∷ [])) all-numbers (omega (arith, to-version))
-      ∙ part-second 4 1 (big 4 2253) (1 ∷ []) (length-big 4 2253) refl
+  pub version-there : take 1 (drop 4 (savedForm v s)) ≡ versionByte v ∷ []
+  unfolding savedForm content
+  version-there = ap (take 1) (drop-at (big 4 (length (content v s))) (content v s) 4 length-first)
 
-  pub numbers-there : take 204 (drop 5 (savedForm s)) ≡ numbers (s .control) (s .pointer) (s .general) (s .masks)
-  unfolding savedForm all-numbers
+  behind-version : drop 5 (savedForm v s) ≡ all-numbers ++ bytes-of-file
+  unfolding savedForm content
+  behind-version =
+      sym (drop-drop 1 4 (savedForm v s)) ∙ ap (drop 1) (drop-at (big 4 (length (content v s))) (content v s) 4 length-first)
+
+  pub numbers-there : take 204 (drop 5 (savedForm v s)) ≡ numbers (s .control) (s .pointer) (s .general) (s .masks)
   numbers-there =
-      part-first 5 204 (big 4 2253 ++ (1 ∷ []) ++ all-numbers) (s .vectors) (omega (arith, to-numbers))
-      ∙ part-second 5 204 (big 4 2253 ++ (1 ∷ [])) all-numbers to-version length-all-numbers
+      rw behind-version (take-at all-numbers bytes-of-file 204 (length-numbers (s .control) (s .pointer) (s .general) (s .masks)))
 
-  pub vectors-there : drop 209 (savedForm s) ≡ s .vectors
-  unfolding savedForm all-numbers
-  vectors-there = drop-at (big 4 2253 ++ (1 ∷ []) ++ all-numbers) (s .vectors) 209 to-numbers
+  pub file-there : drop 209 (savedForm v s) ≡ file v .put (s .vectors)
+  file-there =
+      sym (drop-drop 204 5 (savedForm v s))
+      ∙ rw behind-version (drop-at all-numbers bytes-of-file 204 (length-numbers (s .control) (s .pointer) (s .general) (s .masks)))

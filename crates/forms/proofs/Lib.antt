@@ -1,0 +1,12 @@
+pub mod Slices
+pub mod Numbers
+pub mod Pieces
+pub mod Registers
+pub mod Words
+pub mod Files
+pub mod Places
+pub mod Apart
+pub mod Answered
+pub mod Refusals
+pub mod Trips
+pub mod Sizes

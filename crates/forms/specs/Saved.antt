@@ -1,0 +1,106 @@
+-- docs/RULES.md, R9.4 to R9.6, R9.10, R9.12 and R9.13: saving, loading and moving, with their refusals in order.
+use Prim.Native.Nat.{ℕ, _+_}
+use mathlib.Core.Bool.{Bool, cond, not}
+use mathlib.Core.List.{List, [], _∷_, _++_}
+use lib.Dec.{eqb}
+use lib.ListN.{length, getD, drop}
+use Rattle.lists.specs.Lists.{firstOf}
+use Rattle.machine.specs.State.{State}
+use Rattle.machine.specs.Step.{wrongVectorFile, highControlBit}
+use Rattle.forms.specs.declared.Version.{Version}
+use Rattle.forms.specs.Version.{versionOf, noVersion}
+use Rattle.forms.specs.Numbers.{numberIn}
+use Rattle.forms.specs.Form.{fileAt, file, savedForm, formSize, loadedState}
+
+-- ---- R9.4: saving, in the version that has a number
+
+-- R9.9: not the size of the form
+unfoldable pub wrongTarget : Version → State → List ℕ → Bool
+wrongTarget v s target = not (eqb (length target) (formSize v (s .vectors)))
+
+-- the conditions with their numbers
+unfoldable pub saveConditions : ℕ → State → List ℕ → List (Bool × ℕ)
+saveConditions n s target =
+    (noVersion n, 10) ∷ (wrongVectorFile s, 1) ∷ (wrongTarget (versionOf n) s target, 1) ∷ (highControlBit s, 2) ∷ []
+
+-- the answer's number, and the target as it is left
+pub record Save : Type 0 where
+  pub number : ℕ
+  pub target : List ℕ
+
+-- R9.6: refused, the target stays
+abbrev pub saveOf : ℕ → Version → State → List ℕ → Save
+saveOf number v s target = record { number = number; target = cond (eqb number 0) (savedForm v s) target }
+
+unfoldable pub save : ℕ → State → List ℕ → Save
+save n s target = saveOf (firstOf (saveConditions n s target) 0) (versionOf n) s target
+
+-- ---- R9.5: loading
+
+-- R9.13: where a form ends, as its first field says
+unfoldable pub sizeAt : List ℕ → ℕ
+sizeAt bytes = 4 + numberIn bytes 0 4
+
+-- R9.3: the number of its version, that version, and the state that it holds
+abbrev pub numberOf : List ℕ → ℕ
+numberOf bytes = getD bytes 4 0
+
+abbrev pub versionIn : List ℕ → Version
+versionIn bytes = versionOf (numberOf bytes)
+
+abbrev pub stateIn : List ℕ → State
+stateIn bytes = loadedState (versionIn bytes) bytes
+
+-- not as many bytes as the version and, packed, the word ask for
+unfoldable pub wrongSize : List ℕ → Bool
+wrongSize bytes = not (eqb (length bytes) (fileAt + file (versionIn bytes) .size (drop fileAt bytes)))
+
+unfoldable pub wrongLength : List ℕ → Bool
+wrongLength bytes = not (eqb (sizeAt bytes) (length bytes))
+
+-- a register that is marked and is all zero
+unfoldable pub wrongFile : List ℕ → Bool
+wrongFile bytes = file (versionIn bytes) .wrong (drop fileAt bytes)
+
+-- the conditions with their numbers, of bytes that are read
+unfoldable pub sourceConditions : List ℕ → List (Bool × ℕ)
+sourceConditions bytes =
+    (noVersion (numberOf bytes), 10)
+    ∷ (wrongSize bytes, 10)
+    ∷ (wrongLength bytes, 10)
+    ∷ (wrongFile bytes, 10)
+    ∷ (highControlBit (stateIn bytes), 2)
+    ∷ []
+
+unfoldable pub loadConditions : List ℕ → State → List (Bool × ℕ)
+loadConditions bytes s = (wrongVectorFile s, 1) ∷ sourceConditions bytes
+
+-- the answer's number, and the state as it is left
+pub record Load : Type 0 where
+  pub number : ℕ
+  pub state : State
+
+-- R9.6: refused, the state stays
+unfoldable pub load : List ℕ → State → Load
+load bytes s =
+    let n : ℕ = firstOf (loadConditions bytes s) 0 in
+    record { number = n; state = cond (eqb n 0) (stateIn bytes) s }
+
+-- ---- R9.10: moving, to the version that has a number
+
+unfoldable pub moveConditions : ℕ → List ℕ → List ℕ → List (Bool × ℕ)
+moveConditions n bytes target =
+    ((noVersion n, 10) ∷ sourceConditions bytes) ++ ((wrongTarget (versionOf n) (stateIn bytes) target, 1) ∷ [])
+
+unfoldable pub move : ℕ → List ℕ → List ℕ → Save
+move n bytes target = saveOf (firstOf (moveConditions n bytes target) 0) (versionOf n) (stateIn bytes) target
+
+-- ---- R9.12: how many bytes a save and a move need
+
+unfoldable pub savedSize : ℕ → List ℕ → ℕ
+savedSize n vectors =
+    firstOf ((noVersion n, 0) ∷ (not (eqb (length vectors) 2048), 0) ∷ []) (formSize (versionOf n) vectors)
+
+unfoldable pub movedSize : ℕ → List ℕ → ℕ
+movedSize n bytes =
+    cond (eqb (firstOf ((noVersion n, 10) ∷ sourceConditions bytes) 0) 0) (formSize (versionOf n) (stateIn bytes .vectors)) 0

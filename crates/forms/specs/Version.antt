@@ -1,0 +1,23 @@
+-- docs/RULES.md, R9.1: the versions of a saved form.
+use Prim.Native.Nat.{ℕ}
+use mathlib.Core.Bool.{Bool, true, false, cond, not}
+use lib.Dec.{eqb}
+use Rattle.forms.specs.declared.Version.{Version}
+use Rattle.forms.specs.declared.Version.the-variants.{One, Two}
+
+-- its number, which stands in the form as its byte 4
+abbrev pub versionByte : Version → ℕ
+versionByte One = 1
+versionByte Two = 2
+
+-- R9.8: whether its vector file is packed
+abbrev pub isPacked : Version → Bool
+isPacked One = false
+isPacked Two = true
+
+-- The version that has a number. Where none has it, this is version 1, and `noVersion`, which is asked first, holds.
+unfoldable pub versionOf : ℕ → Version
+versionOf n = cond (eqb n 2) Two One
+
+unfoldable pub noVersion : ℕ → Bool
+noVersion n = not (eqb n (versionByte (versionOf n)))
