@@ -85,7 +85,7 @@ pub place-most : (word n : ℕ) → sumTo n (sizeBy word) ≤ 64 * n
 place-most word n = sum-most 64 n (sizeBy word) (λ j. either (λ k. k ≤ 64) (isSet word j) (lit≤ tt) (lit≤ tt))
 
 -- a place behind the first n bytes
-behind : {A : Type 0} (n k : ℕ) (xs ys : List A) → length xs ≡ n → drop (n + k) (xs ++ ys) ≡ drop k ys
+pub behind : {A : Type 0} (n k : ℕ) (xs ys : List A) → length xs ≡ n → drop (n + k) (xs ++ ys) ≡ drop k ys
 behind n k xs ys h = sym (drop-drop k n (xs ++ ys)) ∙ ap (drop k) (drop-at xs ys n h)
 
 -- ---- a file, packed

@@ -159,14 +159,15 @@ and-or-below (suc n) a b m h =
 abbrev pub meets : ℕ → ℕ → Bool
 meets m x = not (eqb (bitAnd x m) 0)
 
+-- or-ed numbers come to 0 exactly if each is 0
+pub or-not-zero : (x y : ℕ) → not (eqb (bitOr x y) 0) ≡ (not (eqb x 0) || not (eqb y 0))
+or-not-zero zero y = rw (or-zero-l y)
+or-not-zero (suc x) y =
+    let h : bitOr (suc x) y ≡ 0 → ⊥ = λ e. omega (arith, or-add-and (suc x) y, and-le-r (suc x) y) in
+    rw (ne-eqb (bitOr (suc x) y) 0 h, ne-eqb (suc x) 0 (λ e. omega arith))
+
 meets-or : (m a b : ℕ) → meets m (bitOr a b) ≡ (meets m a || meets m b)
-meets-or m a b = rw (and-or-below m a b m (omega arith)) (go (bitAnd a m) (bitAnd b m))
-  where
-    go : (x y : ℕ) → not (eqb (bitOr x y) 0) ≡ (not (eqb x 0) || not (eqb y 0))
-    go zero y = rw (or-zero-l y)
-    go (suc x) y =
-        let h : bitOr (suc x) y ≡ 0 → ⊥ = λ e. omega (arith, or-add-and (suc x) y, and-le-r (suc x) y) in
-        rw (ne-eqb (bitOr (suc x) y) 0 h, ne-eqb (suc x) 0 (λ e. omega arith))
+meets-or m a b = rw (and-or-below m a b m (omega arith)) (or-not-zero (bitAnd a m) (bitAnd b m))
 
 pub or-meets : (m : ℕ) (xs : List ℕ) → meets m (orAll xs) ≡ some (meets m) xs
 or-meets m [] = refl

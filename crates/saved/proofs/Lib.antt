@@ -1,10 +1,8 @@
-pub mod Slices
 pub mod Written
-pub mod Numbers
-pub mod Registers
-pub mod Places
-pub mod Answered
+pub mod Reading
+pub mod Turns
+pub mod Loops
+pub mod Packed
 pub mod Saving
 pub mod Loading
-pub mod Refusals
-pub mod Trips
+pub mod Moving

@@ -1,81 +1,171 @@
--- The code of a load, as laws over plain lists: what its tests show, the answer after each, and what it has read where none refused.
+-- The code of a load: the answer after each test, and what it has read where none refused.
 -- Assumes nothing.
-use Prim.Native.Nat.{ℕ, _+_, _*_, _^_, _≤_, _<_}
-use mathlib.Core.List.{List}
+use Prim.Native.Nat.{ℕ, _+_, _-_, _*_, _^_, _≤_, _<_}
+use mathlib.Core.Bool.{Bool, true, false, cond, not}
 use mathlib.Core.Path.{_≡_, refl, sym, ap, _∙_}
+use mathlib.Core.List.{List, []}
 use native.Mathlib.Omega.{arith}
 use borrow.Author.Tests.{ne-eqb, le-leb, lt-leb}
+use lib.Dec.{eqb, lit≤}
 use lib.ListN.{length, getD, take, drop, length-drop}
 use lib.Seq.{take-all}
-use Rattle.lists.specs.Lists.{table}
-use Rattle.lists.proofs.Tables.{table-equal}
-use Rattle.machine.specs.State.{State}
+use Rattle.lists.specs.Lists.{firstOf, table, NoneHolds}
+use Rattle.lists.proofs.First.{none-holds, holds-none}
+use Rattle.machine.specs.State.{State, stateOf}
 use Rattle.machine.specs.Step.{wrongVectorFile, highControlBit}
-use Rattle.saved.specs.Form.{valueFrom, numberIn, loadedState}
-use Rattle.saved.specs.Saved.{wrongSize, wrongLength, wrongVersion, loadConditions, load}
-use Rattle.saved.proofs.Slices.{part-part}
-use Rattle.saved.proofs.Answered.{load-done, load-refused}
+use Rattle.forms.specs.Version.{isPacked, versionOf, noVersion}
+use Rattle.forms.specs.Numbers.{valueFrom, numberIn}
+use Rattle.forms.specs.File.{packedSize, fileForm}
+use Rattle.forms.specs.Form.{fileAt, file, loadedState}
+use Rattle.forms.specs.Saved.{sizeAt, numberOf, versionIn, stateIn, wrongSize, wrongLength, wrongFile, sourceConditions, loadConditions, load}
+use Rattle.forms.proofs.Apart.{equal, unequal, registers-in, file-size, vectors-long}
+use Rattle.forms.proofs.Answered.{load-done, load-refused}
+use Rattle.forms.proofs.Refusals.{source-non-zero}
 
--- ---- what the tests show
+-- ---- the length field
 
-pub record Sized (bytes vectors : List ℕ) : Type 0 where
-  pub file : length vectors ≡ 2048
-  pub total : length bytes ≡ 2257
+pub field-short : (l : List ℕ) {x : ℕ} → length l < 4 → x ≡ valueFrom 0 l → 4 + x ≡ sizeAt l
+unfolding sizeAt
+field-short l h e = rw (take-all 4 l (omega arith), e)
 
-pub record Headed (bytes vectors : List ℕ) : Type 0 where
-  pub sized : Sized bytes vectors
-  pub long : numberIn bytes 0 4 ≡ 2253
-  pub version : getD bytes 4 0 ≡ 1
+pub field-there : (l : List ℕ) {x : ℕ} → x ≡ valueFrom 0 (take 4 (drop 0 l)) → 4 + x ≡ sizeAt l
+unfolding sizeAt
+field-there l e = rw e
 
--- ---- the answer after each
+-- ---- whether the bytes are a form, after each test
+
+-- a condition before one that holds, where both have the same number
+pick : (k : ℕ) (a : Bool) {m : ℕ} → m ≡ k → cond a k m ≡ k
+pick k true e = refl
+pick k false e = e
+
+differ : (a b : ℕ) → (a ≡ b → ⊥) → not (eqb a b) ≡ true
+differ a b h = ap not (ne-eqb a b h)
+
+-- a file takes 4 bytes or more
+least : (packed : Bool) (l : List ℕ) → 4 ≤ fileForm packed .size l
+unfolding fileForm packedSize
+least true l = omega arith
+least false l = lit≤ tt
+
+-- the file, as it is lent
+abbrev pub lentFile : List ℕ → List ℕ
+lentFile bytes = take (length bytes - 209) (drop 209 bytes)
+
+pub file-lent : (bytes : List ℕ) → lentFile bytes ≡ drop fileAt bytes
+file-lent bytes = take-all (length bytes - 209) (drop 209 bytes) (omega (arith, length-drop 209 bytes))
+
+module _ (bytes : List ℕ) where
+  by-size : wrongSize bytes ≡ true → 10 ≡ firstOf (sourceConditions bytes) 0
+  unfolding sourceConditions
+  by-size h = sym (pick 10 (noVersion (numberOf bytes)) (rw h))
+
+  pub too-short : length bytes < 213 → 10 ≡ firstOf (sourceConditions bytes) 0
+  unfolding wrongSize
+  too-short h =
+      by-size (differ (length bytes) (fileAt + file (versionIn bytes) .size (drop fileAt bytes))
+      (λ e. omega (arith, least (isPacked (versionIn bytes)) (drop fileAt bytes))))
+
+  pub no-such : noVersion (numberOf bytes) ≡ true → 10 ≡ firstOf (sourceConditions bytes) 0
+  unfolding sourceConditions
+  no-such e = sym (rw e)
+
+  pub other-length : {n : ℕ} → n ≡ sizeAt bytes → (n ≡ length bytes → ⊥) → 10 ≡ firstOf (sourceConditions bytes) 0
+  unfolding sourceConditions wrongLength
+  other-length e h =
+      let d : not (eqb (sizeAt bytes) (length bytes)) ≡ true = differ _ _ (λ k. h (e ∙ k)) in
+      sym (pick 10 (noVersion (numberOf bytes)) (pick 10 (wrongSize bytes) (rw d)))
+
+  module _ {packed : Bool} (pack : packed ≡ isPacked (versionIn bytes)) where
+    size-lent : fileForm packed .size (lentFile bytes) ≡ file (versionIn bytes) .size (drop fileAt bytes)
+    size-lent = rw (pack, file-lent bytes)
+
+    pub other-size : {n : ℕ} → n ≡ fileForm packed .size (lentFile bytes) → (length bytes ≡ 209 + n → ⊥)
+        → 10 ≡ firstOf (sourceConditions bytes) 0
+    unfolding wrongSize
+    other-size {n} e h =
+        let k : n ≡ file (versionIn bytes) .size (drop fileAt bytes) = e ∙ size-lent in
+        by-size (differ (length bytes) (fileAt + file (versionIn bytes) .size (drop fileAt bytes)) (λ d. h (omega arith)))
+
+    -- the file has its size, as it is lent
+    pub file-room : {n : ℕ} → n ≡ fileForm packed .size (lentFile bytes) → length bytes ≡ 209 + n
+        → length (lentFile bytes) ≡ fileForm packed .size (lentFile bytes)
+    file-room e h = sym (sym (ap length (file-lent bytes) ∙ length-drop fileAt bytes ∙ omega arith) ∙ refl) ∙ e
+
+    wrong-lent : {w : Bool} → w ≡ fileForm packed .wrong (lentFile bytes) → wrongFile bytes ≡ w
+    unfolding wrongFile
+    wrong-lent e = sym (e ∙ rw (pack, file-lent bytes))
+
+    pub wrong-one : {w : Bool} → w ≡ fileForm packed .wrong (lentFile bytes) → w ≡ true → 10 ≡ firstOf (sourceConditions bytes) 0
+    unfolding sourceConditions
+    wrong-one e h =
+        let d : wrongFile bytes ≡ true = wrong-lent e ∙ h in
+        sym (pick 10 (noVersion (numberOf bytes)) (pick 10 (wrongSize bytes) (pick 10 (wrongLength bytes) (rw d))))
+
+    -- what the tests before the last have shown
+    module _ {n k : ℕ} {w : Bool} (asked : noVersion (numberOf bytes) ≡ false) (en : n ≡ fileForm packed .size (lentFile bytes))
+        (hn : length bytes ≡ 209 + n) (ek : k ≡ sizeAt bytes) (hk : k ≡ length bytes) (ew : w ≡ fileForm packed .wrong (lentFile bytes))
+        (hw : w ≡ false) {x : ℕ} (control : x ≡ numberIn bytes 5 4) where
+      right-size : wrongSize bytes ≡ false
+      unfolding wrongSize
+      right-size = unequal (length bytes) (fileAt + file (versionIn bytes) .size (drop fileAt bytes)) (omega (arith, en ∙ size-lent))
+
+      right-length : wrongLength bytes ≡ false
+      unfolding wrongLength
+      right-length = unequal (sizeAt bytes) (length bytes) (sym ek ∙ hk)
+
+      pub high-control : 2 ^ 16 ≤ x → 2 ≡ firstOf (sourceConditions bytes) 0
+      unfolding sourceConditions highControlBit loadedState
+      high-control h = sym (rw (asked, right-size, right-length, wrong-lent ew ∙ hw, ← control, le-leb _ _ h))
+
+      pub is-form : x < 2 ^ 16 → 0 ≡ firstOf (sourceConditions bytes) 0
+      unfolding sourceConditions highControlBit loadedState
+      is-form h = sym (rw (asked, right-size, right-length, wrong-lent ew ∙ hw, ← control, lt-leb _ _ h))
+
+-- ---- what was read of a form that is right
+
+module _ (bytes : List ℕ) {k : ℕ} (answer : k ≡ firstOf (sourceConditions bytes) 0) (right : k ≡ 0) where
+  pub passed : NoneHolds (sourceConditions bytes)
+  passed = holds-none (sourceConditions bytes) (source-non-zero bytes) (sym answer ∙ right)
+
+  pub whole-length : 213 ≤ length bytes
+  whole-length = omega (arith, length-drop fileAt bytes, file-size bytes passed, least (isPacked (versionIn bytes)) (drop fileAt bytes))
+
+  module _ {packed : Bool} (pack : packed ≡ isPacked (versionIn bytes)) where
+    pub room-lent : length (lentFile bytes) ≡ fileForm packed .size (lentFile bytes)
+    room-lent = rw (pack, file-lent bytes) (file-size bytes passed)
+
+    pub vectors-read : {vectors : List ℕ} → vectors ≡ fileForm packed .get (lentFile bytes) → vectors ≡ stateIn bytes .vectors
+    unfolding loadedState
+    vectors-read e = e ∙ rw (pack, file-lent bytes)
+
+pub state-read : (bytes : List ℕ) {vectors masks general : List ℕ} {control pointer m g : ℕ} → m ≡ 8 → g ≡ 16
+    → control ≡ numberIn bytes 5 4
+    → pointer ≡ numberIn bytes 9 8
+    → general ≡ table g (λ k. numberIn (take 128 (drop 17 bytes)) (8 * k) 8)
+    → masks ≡ table m (λ k. numberIn (take 64 (drop 145 bytes)) (8 * k) 8)
+    → vectors ≡ stateIn bytes .vectors
+    → stateOf vectors masks general control pointer ≡ stateIn bytes
+unfolding loadedState
+state-read bytes {vectors} {masks} {general} hm hg c p r k v =
+    let lower : general ≡ table 16 (λ i. numberIn bytes (17 + 8 * i) 8) = r ∙ rw hg (registers-in bytes 17 16) in
+    let upper : masks ≡ table 8 (λ i. numberIn bytes (145 + 8 * i) 8) = k ∙ rw hm (registers-in bytes 145 8) in
+    λ i. record { vectors = v i; masks = upper i; general = lower i; control = c i; pointer = p i }
+
+-- ---- the answer of a load
 
 module _ (bytes : List ℕ) (s : State) where
   pub wrong-file : (length (s .vectors) ≡ 2048 → ⊥) → record { number = 1; state = s } ≡ load bytes s
   unfolding loadConditions wrongVectorFile
   wrong-file h = sym (load-refused bytes s 1 refl (rw (ne-eqb _ _ h)))
 
-  pub wrong-total : length (s .vectors) ≡ 2048 → (length bytes ≡ 2257 → ⊥) → record { number = 10; state = s } ≡ load bytes s
-  unfolding loadConditions wrongVectorFile wrongSize
-  wrong-total f h = sym (load-refused bytes s 10 refl (rw (f, ne-eqb _ _ h)))
+  module _ (long : length (s .vectors) ≡ 2048) {k : ℕ} (answer : k ≡ firstOf (sourceConditions bytes) 0) where
+    by-source : firstOf (loadConditions bytes s) 0 ≡ k
+    unfolding loadConditions wrongVectorFile
+    by-source = rw long (sym answer)
 
-  pub wrong-long : Sized bytes (s .vectors) → (numberIn bytes 0 4 ≡ 2253 → ⊥) → record { number = 10; state = s } ≡ load bytes s
-  unfolding loadConditions wrongVectorFile wrongSize wrongLength
-  wrong-long S h = sym (load-refused bytes s 10 refl (rw (S .file, S .total, ne-eqb _ _ h)))
+    pub wrong-form : (k ≡ 0 → ⊥) → record { number = k; state = s } ≡ load bytes s
+    wrong-form h = sym (load-refused bytes s k (ne-eqb k 0 h) by-source)
 
-  pub wrong-version : Sized bytes (s .vectors) → numberIn bytes 0 4 ≡ 2253 → (getD bytes 4 0 ≡ 1 → ⊥)
-      → record { number = 10; state = s } ≡ load bytes s
-  unfolding loadConditions wrongVectorFile wrongSize wrongLength wrongVersion
-  wrong-version S l h = sym (load-refused bytes s 10 refl (rw (S .file, S .total, l, ne-eqb _ _ h)))
-
-  pub high-control : Headed bytes (s .vectors) → 2 ^ 16 ≤ numberIn bytes 5 4 → record { number = 2; state = s } ≡ load bytes s
-  unfolding loadConditions wrongVectorFile wrongSize wrongLength wrongVersion highControlBit loadedState
-  high-control H h =
-      sym (load-refused bytes s 2 refl (rw (H .sized .file, H .sized .total, H .long, H .version, le-leb _ _ h)))
-
-  pub loaded : {x : State} → Headed bytes (s .vectors) → numberIn bytes 5 4 < 2 ^ 16 → x ≡ loadedState bytes
-      → record { number = 0; state = x } ≡ load bytes s
-  unfolding loadConditions wrongVectorFile wrongSize wrongLength wrongVersion highControlBit loadedState
-  loaded H h e =
-      ap (λ (x : State). record { number = 0; state = x }) e
-      ∙ sym (load-done bytes s (rw (H .sized .file, H .sized .total, H .long, H .version, lt-leb _ _ h)))
-
--- ---- what was read, each part where the form has it
-
--- n registers in a part of the bytes, and in the bytes
-pub registers-in : (bytes : List ℕ) (at n : ℕ)
-    → table n (λ k. numberIn (take (8 * n) (drop at bytes)) (8 * k) 8) ≡ table n (λ k. numberIn bytes (at + 8 * k) 8)
-registers-in bytes at n = table-equal n (λ k h. ap (valueFrom 0) (part-part at (8 * n) (8 * k) 8 bytes (omega arith)))
-
-pub state-read : (bytes : List ℕ) {vectors masks general : List ℕ} {control pointer m g : ℕ} → length bytes ≡ 2257 → m ≡ 8 → g ≡ 16
-    → control ≡ numberIn bytes 5 4
-    → pointer ≡ numberIn bytes 9 8
-    → general ≡ table g (λ k. numberIn (take 128 (drop 17 bytes)) (8 * k) 8)
-    → masks ≡ table m (λ k. numberIn (take 64 (drop 145 bytes)) (8 * k) 8)
-    → vectors ≡ take 2048 (drop 209 bytes)
-    → record { vectors = vectors; masks = masks; general = general; control = control; pointer = pointer } ≡ loadedState bytes
-unfolding loadedState
-state-read bytes {vectors} {masks} {general} size hm hg c p r k v =
-    let file : vectors ≡ drop 209 bytes = v ∙ take-all 2048 (drop 209 bytes) (omega (arith, length-drop 209 bytes)) in
-    let lower : general ≡ table 16 (λ i. numberIn bytes (17 + 8 * i) 8) = r ∙ rw hg (registers-in bytes 17 16) in
-    let upper : masks ≡ table 8 (λ i. numberIn bytes (145 + 8 * i) 8) = k ∙ rw hm (registers-in bytes 145 8) in
-    λ i. record { vectors = file i; masks = upper i; general = lower i; control = c i; pointer = p i }
+    pub loaded : {t : State} → k ≡ 0 → t ≡ stateIn bytes → record { number = 0; state = t } ≡ load bytes s
+    loaded h e = ap (λ (t : State). record { number = 0; state = t }) e ∙ sym (load-done bytes s (by-source ∙ h))

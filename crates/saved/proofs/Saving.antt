@@ -1,43 +1,85 @@
--- The code of a save, as laws over plain lists: the answer after each test, and what it has written where none refused. The parts that
--- it lends come back one after another, each as the form has it there.
+-- The code of a save: the answer after each test, and what it has written where none refused. The parts that it lends come back one after
+-- another, each as the form has it there.
 -- Assumes nothing.
-use Prim.Native.Nat.{ℕ, _-_, _^_, _≤_, _<_}
-use mathlib.Core.List.{List, _++_}
+use Prim.Native.Nat.{ℕ, _+_, _-_, _^_, _≤_, _<_}
+use mathlib.Core.Bool.{Bool, true, false, cond}
+use mathlib.Core.List.{List, [], _∷_, _++_}
 use mathlib.Core.Path.{_≡_, refl, sym, ap, _∙_}
 use native.Mathlib.Omega.{arith}
-use borrow.Author.Tests.{ne-eqb, le-leb, lt-leb}
+use borrow.Author.Tests.{ne-eqb, eq-eqb, le-leb, lt-leb}
 use lib.Dec.{lit≤}
 use lib.ListN.{length, take, drop}
 use lib.Seq.{take-all}
 use Rattle.machine.specs.State.{State}
 use Rattle.machine.specs.Step.{wrongVectorFile, highControlBit}
-use Rattle.saved.specs.Form.{big, registers, numbers, savedForm}
-use Rattle.saved.specs.Saved.{wrongSize, saveConditions, save}
+use Rattle.forms.specs.declared.Version.{Version}
+use Rattle.forms.specs.declared.Version.the-variants.{One, Two}
+use Rattle.forms.specs.Version.{versionByte, isPacked, versionOf, noVersion}
+use Rattle.forms.specs.Numbers.{big, registers}
+use Rattle.forms.specs.File.{presence, placeOf, fileForm}
+use Rattle.forms.specs.Form.{numbers, fileAt, file, content, savedForm, formSize}
+use Rattle.forms.specs.Saved.{wrongTarget, saveConditions, save, savedSize}
+use Rattle.forms.proofs.Slices.{length-part}
+use Rattle.forms.proofs.Files.{pack-size}
+use Rattle.forms.proofs.Places.{length-numbers, control-there, pointer-there, general-there, masks-there, length-content, length-saved}
+use Rattle.forms.proofs.Places.{length-there, version-there, numbers-there, file-there}
+use Rattle.forms.proofs.Answered.{save-done, save-refused}
 use Rattle.saved.proofs.Written.{Written, nothing, more, lent, all}
-use Rattle.saved.proofs.Places.{length-numbers, control-there, pointer-there, general-there, masks-there, length-saved, length-there}
-use Rattle.saved.proofs.Places.{version-there, numbers-there, vectors-there}
-use Rattle.saved.proofs.Answered.{save-done, save-refused}
+
+-- ---- the size, by the word
+
+file-size : (packed : Bool) (vectors : List ℕ) {word : ℕ} → length vectors ≡ 2048 → word ≡ cond packed (presence vectors) 0
+    → cond packed (placeOf word 32) 2048 ≡ length (fileForm packed .put vectors)
+unfolding fileForm
+file-size true vectors h e = rw e (sym (pack-size vectors h))
+file-size false vectors h e = sym h
+
+pub size-by-word : (v : Version) (vectors : List ℕ) {word : ℕ} → length vectors ≡ 2048 → word ≡ cond (isPacked v) (presence vectors) 0
+    → {n : ℕ} → n ≡ fileAt + cond (isPacked v) (placeOf word 32) 2048 → n ≡ formSize v vectors
+unfolding formSize
+size-by-word v vectors h e k = k ∙ ap (λ (n : ℕ). fileAt + n) (file-size (isPacked v) vectors h e)
 
 -- ---- the answer after each test
 
-module _ (s : State) (target : List ℕ) where
-  pub wrong-file : (length (s .vectors) ≡ 2048 → ⊥) → record { number = 1; target = target } ≡ save s target
-  unfolding saveConditions wrongVectorFile
-  wrong-file h = sym (save-refused s target 1 refl (rw (ne-eqb _ _ h)))
+module _ (n : ℕ) (s : State) (target : List ℕ) where
+  pub no-such : noVersion n ≡ true → record { number = 10; target = target } ≡ save n s target
+  unfolding saveConditions
+  no-such e = sym (save-refused n s target 10 refl (rw e))
 
-  pub wrong-total : length (s .vectors) ≡ 2048 → (length target ≡ 2257 → ⊥) → record { number = 1; target = target } ≡ save s target
-  unfolding saveConditions wrongVectorFile wrongSize
-  wrong-total f h = sym (save-refused s target 1 refl (rw (f, ne-eqb _ _ h)))
+  module _ (asked : noVersion n ≡ false) where
+    pub wrong-file : (length (s .vectors) ≡ 2048 → ⊥) → record { number = 1; target = target } ≡ save n s target
+    unfolding saveConditions wrongVectorFile
+    wrong-file h = sym (save-refused n s target 1 refl (rw (asked, ne-eqb _ _ h)))
 
-  pub high-control : length (s .vectors) ≡ 2048 → length target ≡ 2257 → 2 ^ 16 ≤ s .control
-      → record { number = 2; target = target } ≡ save s target
-  unfolding saveConditions wrongVectorFile wrongSize highControlBit
-  high-control f t h = sym (save-refused s target 2 refl (rw (f, t, le-leb _ _ h)))
+    module _ (long : length (s .vectors) ≡ 2048) {v : Version} (is : v ≡ versionOf n) {k : ℕ} (size : k ≡ formSize v (s .vectors)) where
+      pub wrong-total : (length target ≡ k → ⊥) → record { number = 1; target = target } ≡ save n s target
+      unfolding saveConditions wrongVectorFile wrongTarget
+      wrong-total h = sym (save-refused n s target 1 refl (rw (asked, long, ← is, ← size, ne-eqb _ _ h)))
 
-  pub saved : {x : List ℕ} → length (s .vectors) ≡ 2048 → length target ≡ 2257 → s .control < 2 ^ 16 → x ≡ savedForm s
-      → record { number = 0; target = x } ≡ save s target
-  unfolding saveConditions wrongVectorFile wrongSize highControlBit
-  saved f t h e = ap (λ (x : List ℕ). record { number = 0; target = x }) e ∙ sym (save-done s target (rw (f, t, lt-leb _ _ h)))
+      pub high-control : length target ≡ k → 2 ^ 16 ≤ s .control → record { number = 2; target = target } ≡ save n s target
+      unfolding saveConditions wrongVectorFile wrongTarget highControlBit
+      high-control t h = sym (save-refused n s target 2 refl (rw (asked, long, ← is, ← size, eq-eqb _ _ t, le-leb _ _ h)))
+
+      pub saved : {x : List ℕ} → length target ≡ k → s .control < 2 ^ 16 → x ≡ savedForm v s
+          → record { number = 0; target = x } ≡ save n s target
+      unfolding saveConditions wrongVectorFile wrongTarget highControlBit
+      saved t h e =
+          ap (λ (x : List ℕ). record { number = 0; target = x }) (e ∙ rw is)
+          ∙ sym (save-done n s target (rw (asked, long, ← is, ← size, eq-eqb _ _ t, lt-leb _ _ h)))
+
+-- the size that is needed, by the same tests
+module _ (n : ℕ) (vectors : List ℕ) where
+  pub size-no-such : noVersion n ≡ true → 0 ≡ savedSize n vectors
+  unfolding savedSize
+  size-no-such e = rw e
+
+  pub size-wrong-file : noVersion n ≡ false → (length vectors ≡ 2048 → ⊥) → 0 ≡ savedSize n vectors
+  unfolding savedSize
+  size-wrong-file e h = rw (e, ne-eqb _ _ h)
+
+  pub size-there : noVersion n ≡ false → length vectors ≡ 2048 → {k : ℕ} → k ≡ formSize (versionOf n) vectors → k ≡ savedSize n vectors
+  unfolding savedSize
+  size-there e h k = k ∙ rw (e, h)
 
 -- ---- what was written
 
@@ -66,18 +108,45 @@ numbers-written control pointer general masks d {p} {q} {r} {t} hg hm size hp hq
     let w4 = more w3 204 t (lit≤ tt) (omega arith) (ht ∙ rw hm (sym (masks-there control pointer general masks))) in
     all w4 (omega arith)
 
-pub form-written : (s : State) (d : List ℕ) {p q r t : List ℕ} → length (s .vectors) ≡ 2048 → length d ≡ 2257
-    → p ≡ big (length (take 4 (drop 0 d))) 2253
-    → q ≡ big (length (take 1 (drop 4 (put 0 4 d p)))) 1
-    → r ≡ numbers (s .control) (s .pointer) (s .general) (s .masks)
-    → t ≡ s .vectors
-    → put 209 2048 (put 5 204 (put 4 1 (put 0 4 d p) q) r) t ≡ savedForm s
+-- a version's number fits its byte
+one-byte : (v : Version) → versionByte v ∷ [] ≡ big 1 (versionByte v)
 unfolding big
-form-written s d {p} {q} {r} {t} vectors size hp hq hr ht =
-    let tail : take 2048 (drop 209 (savedForm s)) ≡ s .vectors = rw (vectors-there s) (take-all 2048 (s .vectors) (omega arith)) in
-    let w0 = nothing (savedForm s) d (length-saved s ∙ rw vectors (sym size)) in
-    let w1 = number-put w0 4 2253 p (lit≤ tt) (omega arith) (length-there s) hp in
-    let w2 = number-put w1 5 1 q (lit≤ tt) (omega arith) (version-there s) hq in
-    let w3 = more w2 209 r (lit≤ tt) (omega arith) (hr ∙ sym (numbers-there s)) in
-    let w4 = more w3 2257 t (lit≤ tt) (omega arith) (ht ∙ sym tail) in
-    all w4 (omega arith)
+one-byte One = refl
+one-byte Two = refl
+
+-- a target of a form's size
+module _ (v : Version) (vectors d : List ℕ) (size : length d ≡ formSize v vectors) where
+  pub at-least : 209 ≤ length d
+  unfolding formSize
+  at-least = omega (arith, size)
+
+  pub file-length : length d - 209 ≡ length (file v .put vectors)
+  unfolding formSize
+  file-length = omega (arith, size)
+
+  -- the part for the file, as it is lent
+  pub file-room : (l : List ℕ) → length l ≡ length d → length (take (length d - 209) (drop 209 l)) ≡ length (file v .put vectors)
+  file-room l h = length-part 209 (length d - 209) l (omega (arith, at-least)) ∙ file-length
+
+module _ (v : Version) (s : State) (d : List ℕ) (size : length d ≡ formSize v (s .vectors)) where
+  counted : length d ≡ 4 + length (content v s)
+  unfolding formSize
+  counted = omega (arith, size, length-content v s)
+
+  pub form-written : {p q r t : List ℕ} {b : ℕ} → b ≡ versionByte v
+      → p ≡ big (length (take 4 (drop 0 d))) (length d - 4)
+      → q ≡ big (length (take 1 (drop 4 (put 0 4 d p)))) b
+      → r ≡ numbers (s .control) (s .pointer) (s .general) (s .masks)
+      → t ≡ file v .put (s .vectors)
+      → put 209 (length d - 209) (put 5 204 (put 4 1 (put 0 4 d p) q) r) t ≡ savedForm v s
+  form-written {p} {q} {r} {t} {b} byte hp hq hr ht =
+      let enough : 209 ≤ length d = at-least v (s .vectors) d size in
+      let n : length d - 4 ≡ length (content v s) = omega (arith, counted) in
+      let tail : take (length d - 209) (drop 209 (savedForm v s)) ≡ file v .put (s .vectors) =
+          rw (file-there v s) (take-all (length d - 209) (file v .put (s .vectors)) (omega (arith, file-length v (s .vectors) d size))) in
+      let w0 = nothing (savedForm v s) d (length-saved v s ∙ sym size) in
+      let w1 = number-put w0 4 (length d - 4) p (lit≤ tt) (omega (arith, enough)) (rw n (length-there v s)) hp in
+      let w2 = number-put w1 5 b q (lit≤ tt) (omega (arith, enough)) (rw byte (version-there v s ∙ one-byte v)) hq in
+      let w3 = more w2 209 r (lit≤ tt) enough (hr ∙ sym (numbers-there v s)) in
+      let w4 = more w3 (length d) t enough (omega arith) (ht ∙ sym tail) in
+      all w4 (omega arith)

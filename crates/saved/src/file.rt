@@ -2,32 +2,46 @@
 ghost use mathlib.Core.Path.{_≡_};
 ghost use Prim.Native.Nat.{_≤_};
 ghost use lib.ListN.{length};
-ghost use Rattle.forms.specs.File.{fileForm};
+ghost use mathlib.Core.Bool.{cond};
+ghost use Rattle.forms.specs.File.{presence, placeOf, fileForm};
 use crate::packing::has_empty;
-use crate::packing::packed_length;
 use crate::packing::put_packed;
 use crate::packing::read_packed;
+use crate::packing::size_by;
 use crate::packing::size_in;
+use crate::packing::word_of;
 use crate::parts::copy;
 
-// How many bytes a file takes.
-pub(crate) fn file_length(packed: bool, vectors: &[u8]) -> usize
+// The word of a file, which is found once and then goes with it; 0 where it is not packed.
+pub(crate) fn file_word(packed: bool, vectors: &[u8]) -> u32
     requires { ⌜ length (now vectors) ≡ 2048 ⌝ }
-    ensures { λ r. ⌜ (r ≡ length (fileForm packed .put (now (vectors .entry)))) × (r ≤ 2052) ⌝ }
+    ensures { λ r. ⌜ r ≡ cond packed (presence (now (vectors .entry))) 0 ⌝ }
 {
     if packed {
-        return packed_length(vectors);
+        return word_of(vectors);
+    }
+    0
+}
+
+// How many bytes a file takes, by its word.
+pub(crate) fn file_length(packed: bool, word: u32) -> usize
+    ensures { λ r. ⌜ (r ≡ cond packed (placeOf word 32) 2048) × (r ≤ 2052) ⌝ }
+{
+    if packed {
+        return size_by(word);
     }
     2048
 }
 
-// A file over a part.
-pub(crate) fn put_file(part: &mut [u8], packed: bool, vectors: &[u8])
-    requires { ⌜ (length (now vectors) ≡ 2048) × (length (now part) ≡ length (fileForm packed .put (now vectors))) ⌝ }
+// A file over a part, by its word.
+pub(crate) fn put_file(part: &mut [u8], packed: bool, word: u32, vectors: &[u8])
+    requires { ⌜ (length (now vectors) ≡ 2048)
+        × (word ≡ cond packed (presence (now vectors)) 0)
+        × (length (now part) ≡ length (fileForm packed .put (now vectors))) ⌝ }
     ensures { λ _. ⌜ now (part .exit) ≡ fileForm packed .put (now (vectors .entry)) ⌝ }
 {
     if packed {
-        put_packed(part, vectors);
+        put_packed(part, word, vectors);
         return;
     }
     copy(part, vectors);

@@ -1,12 +1,14 @@
 // Saved forms of the machine's state (R9.1 to R9.13).
 ghost use mathlib.Core.Path.{_≡_};
-ghost use Prim.Native.Nat.{_+_, _≤_};
-ghost use lib.ListN.{length, drop};
+ghost use mathlib.Core.Bool.{cond};
+ghost use Prim.Native.Nat.{_+_};
+ghost use lib.ListN.{length};
 ghost use Rattle.lists.specs.Lists.{firstOf};
 ghost use Rattle.machine.specs.State.{stateOf};
 ghost use Rattle.forms.specs.Version.{versionByte, isPacked, versionOf, noVersion};
-ghost use Rattle.forms.specs.Form.{numbers, fileAt, file, savedForm, formSize, loadedState};
-ghost use Rattle.forms.specs.Saved.{save, sizeAt, versionIn, stateIn, sourceConditions, load, move, savedSize, movedSize};
+ghost use Rattle.forms.specs.File.{presence, placeOf};
+ghost use Rattle.forms.specs.Form.{numbers, fileAt, savedForm, formSize};
+ghost use Rattle.forms.specs.Saved.{save, sizeAt, stateIn, sourceConditions, load, move, savedSize, movedSize};
 use forms::Version;
 
 mod file;
@@ -61,25 +63,27 @@ fn put_numbers(part: &mut [u8], control: u32, pointer: u64, general: &[u64; 16],
     parts::put_registers(&mut part[140..204], masks);
 }
 
-// R9.9: how many bytes a form with this vector file has.
-fn form_size(version: Version, vectors: &[u8]) -> usize
-    requires { ⌜ length (now vectors) ≡ 2048 ⌝ }
-    ensures { λ r. ⌜ r ≡ formSize version (now (vectors .entry)) ⌝ }
+// R9.9: how many bytes a form has, by its file's word.
+fn form_size(version: Version, word: u32) -> usize
+    ensures { λ r. ⌜ r ≡ fileAt + cond (isPacked version) (placeOf word 32) 2048 ⌝ }
 {
-    209 + file::file_length(is_packed(version), vectors)
+    209 + file::file_length(is_packed(version), word)
 }
 
-// A state's form over a target of its size.
+// A state's form over a target of its size, by its file's word.
 fn put_form(
     target: &mut [u8],
     version: Version,
+    word: u32,
     vectors: &[u8],
     masks: &[u64; 8],
     general: &[u64; 16],
     control: u32,
     pointer: u64,
 )
-    requires { ⌜ (length (now vectors) ≡ 2048) × (length (now target) ≡ formSize version (now vectors)) ⌝ }
+    requires { ⌜ (length (now vectors) ≡ 2048)
+        × (word ≡ cond (isPacked version) (presence (now vectors)) 0)
+        × (length (now target) ≡ formSize version (now vectors)) ⌝ }
     ensures { λ _. ⌜ now (target .exit)
         ≡ savedForm version (stateOf (now (vectors .entry)) (now (masks .entry)) (now (general .entry)) control pointer) ⌝ }
 {
@@ -87,7 +91,7 @@ fn put_form(
     parts::put_number(&mut target[0..4], (end - 4) as u64);
     parts::put_number(&mut target[4..5], version_byte(version) as u64);
     put_numbers(&mut target[5..209], control, pointer, general, masks);
-    file::put_file(&mut target[209..end], is_packed(version), vectors);
+    file::put_file(&mut target[209..end], is_packed(version), word, vectors);
 }
 
 // R9.4: the state into the target, in the version that has a number. 0, or the number of what is wrong first, with the target as it was.
@@ -113,14 +117,25 @@ pub fn save(
         return 1;
     }
     let form = version_of(version);
-    if target.len() != form_size(form, vectors) {
+    let word = file::file_word(is_packed(form), vectors);
+    if target.len() != form_size(form, word) {
         return 1;
     }
     if 0x1_0000 <= control {
         return 2;
     }
-    put_form(target, form, vectors, masks, general, control, pointer);
+    put_form(
+        target, form, word, vectors, masks, general, control, pointer,
+    );
     0
+}
+
+// R9.9: how many bytes a form with this vector file has.
+fn size_with(version: Version, vectors: &[u8]) -> usize
+    requires { ⌜ length (now vectors) ≡ 2048 ⌝ }
+    ensures { λ r. ⌜ r ≡ formSize version (now (vectors .entry)) ⌝ }
+{
+    form_size(version, file::file_word(is_packed(version), vectors))
 }
 
 // R9.12: how many bytes a save needs.
@@ -133,7 +148,7 @@ pub fn saved_size(version: u32, vectors: &[u8]) -> usize
     if vectors.len() != 2048 {
         return 0;
     }
-    form_size(version_of(version), vectors)
+    size_with(version_of(version), vectors)
 }
 
 // ---- loading
@@ -148,6 +163,13 @@ pub fn size_at(bytes: &[u8]) -> usize
     4 + parts::read_number(&bytes[0..4]) as usize
 }
 
+// A version's byte as its number.
+fn number_of(byte: u8) -> u32
+    ensures { λ r. ⌜ r ≡ byte ⌝ }
+{
+    byte as u32
+}
+
 // R9.5: the number of what is wrong first with bytes that are to be read, 0 for nothing. No form has less than 213.
 fn source_number(saved: &[u8]) -> u32
     ensures { λ r. ⌜ r ≡ firstOf (sourceConditions (now (saved .entry))) 0 ⌝ }
@@ -155,7 +177,7 @@ fn source_number(saved: &[u8]) -> u32
     if saved.len() < 213 {
         return 10;
     }
-    let version = saved[4] as u32;
+    let version = number_of(saved[4]);
     if no_version(version) {
         return 10;
     }
@@ -180,7 +202,7 @@ fn read_vectors(saved: &[u8], vectors: &mut [u8])
     requires { ⌜ (length (now vectors) ≡ 2048) × (firstOf (sourceConditions (now saved)) 0 ≡ 0) ⌝ }
     ensures { λ _. ⌜ now (vectors .exit) ≡ stateIn (now (saved .entry)) .vectors ⌝ }
 {
-    let packed = is_packed(version_of(saved[4] as u32));
+    let packed = is_packed(version_of(number_of(saved[4])));
     file::read_file(packed, &saved[209..], vectors);
 }
 
@@ -265,5 +287,5 @@ pub fn moved_size(version: u32, source: &[u8]) -> usize
     }
     let mut vectors = [0u8; 2048];
     read_vectors(source, &mut vectors);
-    form_size(version_of(version), &vectors)
+    size_with(version_of(version), &vectors)
 }

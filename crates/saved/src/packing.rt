@@ -7,20 +7,20 @@ ghost use lib.ListN.{length, take, drop};
 ghost use Rattle.evex.specs.Bits.{isSet};
 ghost use Rattle.forms.specs.File.{present, ifPresent, presence, pack, wordIn, placeOf, packedAt, zeros, unpack, packedSize, isEmpty, hasEmpty};
 use crate::parts::clear;
-use crate::parts::copy;
+use crate::parts::copy_register;
 use crate::parts::put_number;
 use crate::parts::read_number;
 
-// Some byte is not zero.
+// Some byte of a register is not zero: all are or-ed, so that the loop has no branch.
 fn is_present(register: &[u8]) -> bool
+    requires { ⌜ length (now register) ≡ 64 ⌝ }
     ensures { λ r. ⌜ r ≡ present (now (register .entry)) ⌝ }
 {
-    for k in 0..register.len() {
-        if register[k] != 0 {
-            return true;
-        }
+    let mut all = 0;
+    for k in 0..64 {
+        all = all | register[k];
     }
-    false
+    all != 0
 }
 
 // Bit i of a word.
@@ -33,7 +33,7 @@ fn is_marked(word: u32, i: usize) -> bool
 
 // The bit that says that register i is present.
 fn mark(register: &[u8], i: usize) -> u32
-    requires { ⌜ i < 32 ⌝ }
+    requires { ⌜ (i < 32) × (length (now register) ≡ 64) ⌝ }
     ensures { λ r. ⌜ r ≡ cond (present (now (register .entry))) 1 0 * 2 ^ i ⌝ }
 {
     if is_present(register) {
@@ -43,7 +43,7 @@ fn mark(register: &[u8], i: usize) -> u32
 }
 
 // The word of a file.
-fn word_of(vectors: &[u8]) -> u32
+pub(crate) fn word_of(vectors: &[u8]) -> u32
     requires { ⌜ length (now vectors) ≡ 2048 ⌝ }
     ensures { λ r. ⌜ r ≡ presence (now (vectors .entry)) ⌝ }
 {
@@ -68,7 +68,7 @@ fn size_of(word: u32, i: usize) -> usize
 }
 
 // How many bytes a packed file has, by its word.
-fn size_by(word: u32) -> usize
+pub(crate) fn size_by(word: u32) -> usize
     ensures { λ r. ⌜ (r ≡ placeOf word 32) × (r ≤ 2052) ⌝ }
 {
     let mut at = 4;
@@ -78,41 +78,38 @@ fn size_by(word: u32) -> usize
     at
 }
 
-// How many bytes a file has when it is packed.
-pub(crate) fn packed_length(vectors: &[u8]) -> usize
-    requires { ⌜ length (now vectors) ≡ 2048 ⌝ }
-    ensures { λ r. ⌜ (r ≡ length (pack (now (vectors .entry)))) × (r ≤ 2052) ⌝ }
-{
-    size_by(word_of(vectors))
-}
-
-// A register at a place, if it is present; the place behind it.
-fn put_one(part: &mut [u8], at: usize, register: &[u8]) -> usize
-    requires { ⌜ (length (now register) ≡ 64) × (at + length (ifPresent (now register)) ≤ length (now part)) ⌝ }
+// A register at a place, if it is marked; the place behind it.
+fn put_one(part: &mut [u8], at: usize, word: u32, i: usize, register: &[u8]) -> usize
+    requires { ⌜ (i < 32)
+        × (length (now register) ≡ 64)
+        × (isSet word i ≡ present (now register))
+        × (at + length (ifPresent (now register)) ≤ length (now part)) ⌝ }
     ensures { λ r. ⌜ (r ≡ at + length (ifPresent (now (register .entry))))
         × (now (part .exit)
         ≡ take at (now (part .entry))
         ++ (ifPresent (now (register .entry)) ++ drop (length (ifPresent (now (register .entry)))) (drop at (now (part .entry))))) ⌝ }
 {
-    if is_present(register) {
+    if is_marked(word, i) {
         let end = at + 64;
-        copy(&mut part[at..end], register);
+        copy_register(&mut part[at..end], register);
         return end;
     }
     at
 }
 
-// A file over a part, packed.
-pub(crate) fn put_packed(part: &mut [u8], vectors: &[u8])
-    requires { ⌜ (length (now vectors) ≡ 2048) × (length (now part) ≡ length (pack (now vectors))) ⌝ }
+// A file over a part, packed by its word.
+pub(crate) fn put_packed(part: &mut [u8], word: u32, vectors: &[u8])
+    requires { ⌜ (length (now vectors) ≡ 2048)
+        × (word ≡ presence (now vectors))
+        × (length (now part) ≡ length (pack (now vectors))) ⌝ }
     ensures { λ _. ⌜ now (part .exit) ≡ pack (now (vectors .entry)) ⌝ }
 {
-    put_number(&mut part[0..4], word_of(vectors) as u64);
+    put_number(&mut part[0..4], word as u64);
     let mut at = 4;
     for i in 0..32 {
         let from = 64 * i;
         let end = 64 * (i + 1);
-        at = put_one(part, at, &vectors[from..end]);
+        at = put_one(part, at, word, i, &vectors[from..end]);
     }
 }
 
@@ -173,7 +170,7 @@ fn read_one(word: u32, i: usize, part: &[u8], at: usize, register: &mut [u8]) ->
 {
     if is_marked(word, i) {
         let end = at + 64;
-        copy(register, &part[at..end]);
+        copy_register(register, &part[at..end]);
         return end;
     }
     clear(register);

@@ -86,3 +86,17 @@ pub(crate) fn clear(part: &mut [u8])
         part[k] = 0;
     }
 }
+
+// A register's 64 bytes over a part.
+pub(crate) fn copy_register(part: &mut [u8], register: &[u8])
+    requires { ⌜ (length (now part) ≡ 64) × (length (now register) ≡ 64) ⌝ }
+    ensures { λ _. ⌜ now (part .exit) ≡ now (register .entry) ⌝ }
+{
+    let mut held = [0u8; 64];
+    for k in 0..64 {
+        held[k] = register[k];
+    }
+    for k in 0..64 {
+        part[k] = held[k];
+    }
+}

@@ -1,114 +1,79 @@
--- `saved::save` meets its contract: each `return` is a law of Saving.antt, at what the tests before it have shown.
+use native.Mathlib.Omega.{arith}
+use mathlib.Core.Path.{sym, _∙_}
+use Rattle.saved.proofs.Saving.{size-by-word, no-such, wrong-file, wrong-total, high-control, saved}
 use borrow.Author.Needs.{needs}
-use Rattle.saved.proofs.Saving.{wrong-file, wrong-total, high-control, saved, form-written}
 use Rattle.saved.proofs.save.Statement.{statement}
 use Rattle.saved.proofs.save.Tie as tie
+use Rattle.saved.proofs.save.Reads as reads
+use Rattle.saved.proofs.save.Lts as lts
+use Rattle.saved.proofs.file.file_word.Reads as file-word-reads
+use Rattle.saved.proofs.form_size.Reads as form-size-reads
+use Rattle.saved.proofs.is_packed.Reads as is-packed-reads
+use Rattle.saved.proofs.no_version.Reads as no-version-reads
+use Rattle.saved.proofs.put_form.Reads as put-form-reads
+use Rattle.saved.proofs.version_of.Reads as version-of-reads
 
+-- src/lib.rt:113:8
+no-version-requires : tie.Need-no-version-requires
+no-version-requires c κs = search needs
+
+-- src/lib.rt:114:9
 returns : tie.Need-returns
-returns c = wrong-file _ _ (c .if1 .taken)
+returns c = no-such _ _ _ (sym (c .before .no-version .ensures) ∙ c .if1 .taken)
 
+-- src/lib.rt:117:9
 returns-2 : tie.Need-returns-2
-returns-2 c = wrong-total _ _ (c .before .if1 .left) (c .if2 .taken)
+returns-2 c = wrong-file _ _ _ (sym (c .before .before .no-version .ensures) ∙ c .before .if1 .left) (c .if2 .taken)
 
+-- src/lib.rt:119:9
+version-of-requires : tie.Need-version-of-requires
+version-of-requires c κs = search needs
+
+-- src/lib.rt:120:32
+is-packed-requires : tie.Need-is-packed-requires
+is-packed-requires c κs = search needs
+
+-- src/lib.rt:120:9
+file-word-requires : tie.Need-file-word-requires
+file-word-requires c κs = search needs
+
+-- src/lib.rt:121:24
+form-size-requires : tie.Need-form-size-requires
+form-size-requires c κs = search needs
+
+-- src/lib.rt:122:9
 returns-3 : tie.Need-returns-3
-returns-3 c = high-control _ _ (c .before .before .if1 .left) (c .before .if2 .left) (c .if3 .taken)
+returns-3 c = wrong-total _ _ _ (sym (c .before .before .before .before .before .before .before .no-version .ensures) ∙ c .before .before .before .before .before .before .if1 .left) (c .before .before .before .before .before .if2 .left) (c .before .before .before .before .version-of .ensures) (size-by-word (c .before .before .before .before .version-of .result) (c .before .before .before .before .before .before .before .before .before .before .args .vectors .now) (c .before .before .before .before .before .if2 .left) (c .before .before .file-word .ensures ∙ rw (c .before .before .before .is-packed .ensures)) (c .before .form-size .ensures)) (c .if3 .taken)
 
-sub-put-number : tie.Need-sub-put-number
-sub-put-number c = search needs
+-- src/lib.rt:125:9
+returns-4 : tie.Need-returns-4
+returns-4 c = high-control _ _ _ (sym (c .before .before .before .before .before .before .before .before .no-version .ensures) ∙ c .before .before .before .before .before .before .before .if1 .left) (c .before .before .before .before .before .before .if2 .left) (c .before .before .before .before .before .version-of .ensures) (size-by-word (c .before .before .before .before .before .version-of .result) (c .before .before .before .before .before .before .before .before .before .before .before .args .vectors .now) (c .before .before .before .before .before .before .if2 .left) (c .before .before .before .file-word .ensures ∙ rw (c .before .before .before .before .is-packed .ensures)) (c .before .before .form-size .ensures)) (c .before .if3 .left) (c .if4 .taken)
 
-part-put-number-start : tie.Need-part-put-number-start
-part-put-number-start c = search needs
+-- src/lib.rt:127:5
+put-form-requires : tie.Need-put-form-requires
+put-form-requires c κs = (c .before .before .before .before .before .before .before .if2 .left, c .before .before .before .before .file-word .ensures ∙ rw (c .before .before .before .before .before .is-packed .ensures), c .before .before .if3 .left ∙ size-by-word _ (c .before .before .before .before .before .before .before .before .before .before .before .before .args .vectors .now) (c .before .before .before .before .before .before .before .if2 .left) (c .before .before .before .before .file-word .ensures ∙ rw (c .before .before .before .before .before .is-packed .ensures)) (c .before .before .before .form-size .ensures))
 
-part-put-number-end : tie.Need-part-put-number-end
-part-put-number-end c = search needs
-
-put-number-requires : tie.Need-put-number-requires
-put-number-requires c κs = search needs
-
-sub-put-number-2 : tie.Need-sub-put-number-2
-sub-put-number-2 c = search needs
-
-part-put-number-start-2 : tie.Need-part-put-number-start-2
-part-put-number-start-2 c = search needs
-
-part-put-number-end-2 : tie.Need-part-put-number-end-2
-part-put-number-end-2 c = search needs
-
-put-number-requires-2 : tie.Need-put-number-requires-2
-put-number-requires-2 c κs = search needs
-
-sub-put-numbers : tie.Need-sub-put-numbers
-sub-put-numbers c = search needs
-
-part-put-numbers-start : tie.Need-part-put-numbers-start
-part-put-numbers-start c = search needs
-
-part-put-numbers-end : tie.Need-part-put-numbers-end
-part-put-numbers-end c = search needs
-
-put-numbers-requires : tie.Need-put-numbers-requires
-put-numbers-requires c κs = search needs
-
-sub-copy : tie.Need-sub-copy
-sub-copy c = search needs
-
-part-copy-start : tie.Need-part-copy-start
-part-copy-start c = search needs
-
-part-copy-end : tie.Need-part-copy-end
-part-copy-end c = search needs
-
-copy-requires : tie.Need-copy-requires
-copy-requires c κs = search needs
-
+-- src/lib.rt:98:1
 same-length : tie.Need-same-length
 same-length c = search needs
 
-returns-4 : tie.Need-returns-4
-returns-4 c =
-    let far = c .before .before .before .before .before .before .before .before .before .before in
-    let start : tie.Start = far .before .before .before .before .before .before .before .before .before .before .before in
-    let if1 = far .before .before .before .before .before .before .before .before .if1 in
-    let if2 = far .before .before .before .before .before .before .before .if2 in
-    let if3 = far .before .before .before .before .before .before .if3 in
-    let put-number = far .before .before .before .before .put-number in
-    let put-number2 = c .before .before .before .before .before .before .before .before .before .before .put-number2 in
-    let put-numbers = c .before .before .before .before .before .before .put-numbers in
-    saved _ _
-    (if1 .left)
-    (if2 .left)
-    (if3 .left)
-    (form-written _
-    (start .args .target .now)
-    (if1 .left)
-    (if2 .left)
-    (put-number .ensures)
-    (put-number2 .ensures)
-    (put-numbers .ensures)
-    (c .before .before .copy .ensures))
+-- src/lib.rt:98:1
+returns-5 : tie.Need-returns-5
+returns-5 c = saved _ _ _ (sym (c .before .before .before .before .before .before .before .before .before .before .before .before .no-version .ensures) ∙ c .before .before .before .before .before .before .before .before .before .before .before .if1 .left) (c .before .before .before .before .before .before .before .before .before .before .if2 .left) (c .before .before .before .before .before .before .before .before .before .version-of .ensures) (size-by-word (c .before .before .before .before .before .before .before .before .before .version-of .result) (c .before .before .before .before .before .before .before .before .before .before .before .before .before .before .before .args .vectors .now) (c .before .before .before .before .before .before .before .before .before .before .if2 .left) (c .before .before .before .before .before .before .before .file-word .ensures ∙ rw (c .before .before .before .before .before .before .before .before .is-packed .ensures)) (c .before .before .before .before .before .before .form-size .ensures)) (c .before .before .before .before .before .if3 .left) (omega arith) (c .before .before .put-form .ensures)
 
 pub save-spec : {M : Type 1} → statement M
 save-spec =
     tie.close
     (tie.spec
+    no-version-requires
     returns
     returns-2
+    version-of-requires
+    is-packed-requires
+    file-word-requires
+    form-size-requires
     returns-3
-    sub-put-number
-    part-put-number-start
-    part-put-number-end
-    put-number-requires
-    sub-put-number-2
-    part-put-number-start-2
-    part-put-number-end-2
-    put-number-requires-2
-    sub-put-numbers
-    part-put-numbers-start
-    part-put-numbers-end
-    put-numbers-requires
-    sub-copy
-    part-copy-start
-    part-copy-end
-    copy-requires
+    returns-4
+    put-form-requires
     same-length
-    returns-4)
+    returns-5)

@@ -1,6 +1,6 @@
 -- `saved::parts::byte_of` meets its contract: a shift by 8 times a number divides by that power of 256.
 use borrow.Author.Needs.{needs}
-use Rattle.saved.proofs.Numbers.{power-bits}
+use Rattle.forms.proofs.Numbers.{power-bits}
 use Rattle.saved.proofs.parts.byte_of.Statement.{statement}
 use Rattle.saved.proofs.parts.byte_of.Tie as tie
 

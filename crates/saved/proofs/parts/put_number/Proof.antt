@@ -2,8 +2,8 @@
 use Prim.Native.Nat.{_-_}
 use mathlib.Core.Path.{sym, _∙_}
 use native.Mathlib.Omega.{arith}
-use Rattle.saved.specs.Form.{big}
-use Rattle.saved.proofs.Numbers.{length-big, getD-big}
+use Rattle.forms.specs.Numbers.{big}
+use Rattle.forms.proofs.Numbers.{length-big, getD-big}
 use Rattle.saved.proofs.Written.{Written, nothing, kept, stored, all}
 use Rattle.saved.proofs.parts.put_number.Statement.{statement}
 use Rattle.saved.proofs.parts.put_number.Tie as tie

@@ -2,8 +2,9 @@
 use Prim.Native.Nat.{_+_, _-_, _*_}
 use mathlib.Core.Path.{sym, _∙_}
 use native.Mathlib.Omega.{arith}
-use Rattle.saved.specs.Form.{registers}
-use Rattle.saved.proofs.Registers.{length-registers, at-most-eight, written-register}
+use Rattle.forms.specs.Numbers.{registers}
+use Rattle.forms.proofs.Registers.{length-registers}
+use Rattle.saved.proofs.Turns.{at-most-eight, written-register}
 use Rattle.saved.proofs.Written.{Written, nothing, kept, more, all}
 use Rattle.saved.proofs.parts.put_registers.Statement.{statement}
 use Rattle.saved.proofs.parts.put_registers.Tie as tie

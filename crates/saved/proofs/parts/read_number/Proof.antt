@@ -1,7 +1,7 @@
 -- `saved::parts::read_number` meets its contract: after k turns x is the number of the first k bytes, which fits.
 use Prim.Native.Nat.{_-_}
 use native.Mathlib.Omega.{arith}
-use Rattle.saved.proofs.Numbers.{Reading, nothing-read, next-fits, next-read, all-read}
+use Rattle.saved.proofs.Reading.{Reading, nothing-read, next-fits, next-read, all-read}
 use Rattle.saved.proofs.parts.read_number.Statement.{statement}
 use Rattle.saved.proofs.parts.read_number.Tie as tie
 

@@ -4,8 +4,8 @@ use mathlib.Core.Path.{_∙_}
 use native.Mathlib.Omega.{arith}
 use Rattle.lists.specs.Lists.{table}
 use Rattle.lists.proofs.Tables.{length-table}
-use Rattle.saved.specs.Form.{numberIn}
-use Rattle.saved.proofs.Registers.{at-most-eight, read-register}
+use Rattle.forms.specs.Numbers.{numberIn}
+use Rattle.saved.proofs.Turns.{at-most-eight, read-register}
 use Rattle.saved.proofs.Written.{Written, nothing, kept, stored, all}
 use Rattle.saved.proofs.parts.read_registers.Statement.{statement}
 use Rattle.saved.proofs.parts.read_registers.Tie as tie
@@ -55,7 +55,7 @@ loop-less c = omega arith
 loop-again : tie.Need-loop-again Inv-loop μ-loop
 loop-again c =
     stored (c .before .before .before .loop .inv) 0 (omega arith)
-    (c .read-number .ensures ∙ read-register _ _ _ (c .before .before .loop-test .taken))
+    (c .read-number .ensures .0 ∙ read-register _ _ _ (c .before .before .loop-test .taken))
 
 same-length : tie.Need-same-length Inv-loop μ-loop
 same-length c = kept (c .before .loop .inv)
