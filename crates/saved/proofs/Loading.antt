@@ -8,7 +8,7 @@ use native.Mathlib.Omega.{arith}
 use borrow.Author.Tests.{ne-eqb, le-leb, lt-leb}
 use lib.Dec.{eqb, lit≤}
 use lib.ListN.{length, getD, take, drop, length-drop}
-use lib.Seq.{take-all}
+use lib.Seq.{take-all, length-take-le}
 use Rattle.lists.specs.Lists.{firstOf, table, NoneHolds}
 use Rattle.lists.proofs.First.{none-holds, holds-none}
 use Rattle.machine.specs.State.{State, stateOf}
@@ -21,16 +21,18 @@ use Rattle.forms.specs.Saved.{sizeAt, numberOf, versionIn, stateIn, wrongSize, 
 use Rattle.forms.proofs.Apart.{equal, unequal, registers-in, file-size, vectors-long}
 use Rattle.forms.proofs.Answered.{load-done, load-refused}
 use Rattle.forms.proofs.Refusals.{source-non-zero}
+use Rattle.saved.proofs.Reading.{four-bytes}
 
 -- ---- the length field
 
-pub field-short : (l : List ℕ) {x : ℕ} → length l < 4 → x ≡ valueFrom 0 l → 4 + x ≡ sizeAt l
+pub field-short : (l : List ℕ) {x : ℕ} → length l < 4 → (x ≡ valueFrom 0 l) × (x < 256 ^ length l) → (4 + x ≡ sizeAt l) × (4 + x < 2 ^ 33)
 unfolding sizeAt
-field-short l h e = rw (take-all 4 l (omega arith), e)
+field-short l {x} h e = (rw (take-all 4 l (omega arith), e .0), omega (arith, four-bytes x (length l) (e .1) (omega arith)))
 
-pub field-there : (l : List ℕ) {x : ℕ} → x ≡ valueFrom 0 (take 4 (drop 0 l)) → 4 + x ≡ sizeAt l
+pub field-there : (l : List ℕ) {x : ℕ} → 4 ≤ length l → (x ≡ valueFrom 0 (take 4 l)) × (x < 256 ^ length (take 4 l))
+    → (4 + x ≡ sizeAt l) × (4 + x < 2 ^ 33)
 unfolding sizeAt
-field-there l e = rw e
+field-there l {x} h e = (rw (e .0), omega (arith, four-bytes x 4 (rw (length-take-le 4 l h) at (e .1)) (omega arith)))
 
 -- ---- whether the bytes are a form, after each test
 

@@ -1,7 +1,7 @@
 // Saved forms of the machine's state (R9.1 to R9.13).
 ghost use mathlib.Core.Path.{_≡_};
 ghost use mathlib.Core.Bool.{cond};
-ghost use Prim.Native.Nat.{_+_};
+ghost use Prim.Native.Nat.{_+_, _^_, _<_};
 ghost use lib.ListN.{length};
 ghost use Rattle.lists.specs.Lists.{firstOf};
 ghost use Rattle.machine.specs.State.{stateOf};
@@ -155,7 +155,7 @@ pub fn saved_size(version: u32, vectors: &[u8]) -> usize
 
 // R9.13: where the form ends that these bytes begin with.
 pub fn size_at(bytes: &[u8]) -> usize
-    ensures { λ r. ⌜ r ≡ sizeAt (now (bytes .entry)) ⌝ }
+    ensures { λ r. ⌜ (r ≡ sizeAt (now (bytes .entry))) × (r < 2 ^ 33) ⌝ }
 {
     if bytes.len() < 4 {
         return 4 + parts::read_number(bytes) as usize;

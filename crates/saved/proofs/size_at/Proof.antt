@@ -1,7 +1,4 @@
 use native.Mathlib.Omega.{arith}
-use lib.ListN.{length}
-use lib.Seq.{length-take-le}
-use Rattle.saved.proofs.Reading.{four-bytes}
 use Rattle.saved.proofs.Loading.{field-short, field-there}
 use borrow.Author.Needs.{needs}
 use Rattle.saved.proofs.size_at.Statement.{statement}
@@ -16,11 +13,11 @@ read-number-requires c κs = search needs
 
 -- src/lib.rt:161:16
 add-result : tie.Need-add-result
-add-result c = omega (arith, four-bytes (c .read-number .result) (length (c .before .before .before .args .bytes .now)) (c .read-number .ensures .1) (omega arith))
+add-result c = omega (arith, field-short (c .before .before .before .args .bytes .now) (c .before .if1 .taken) (c .read-number .ensures) .1)
 
 -- src/lib.rt:161:9
 returns : tie.Need-returns
-returns c = field-short (c .before .before .before .args .bytes .now) (c .before .if1 .taken) (c .read-number .ensures .0)
+returns c = field-short (c .before .before .before .args .bytes .now) (c .before .if1 .taken) (c .read-number .ensures)
 
 -- src/lib.rt:163:28
 sub-read-number : tie.Need-sub-read-number
@@ -40,15 +37,11 @@ read-number-requires-2 c κs = search needs
 
 -- src/lib.rt:163:5
 add-result-2 : tie.Need-add-result-2
-add-result-2 c = 
-    omega (
-      arith,
-      four-bytes (c .read-number2 .result) 4 (rw (length-take-le 4 (c .before .before .before .before .args .bytes .now) (omega arith)) at (c .read-number2 .ensures .1)) (omega arith),
-    )
+add-result-2 c = omega (arith, field-there (c .before .before .before .before .args .bytes .now) (omega arith) (c .read-number2 .ensures) .1)
 
 -- src/lib.rt:157:1
 returns-2 : tie.Need-returns-2
-returns-2 c = field-there (c .before .before .before .before .args .bytes .now) (c .read-number2 .ensures .0)
+returns-2 c = field-there (c .before .before .before .before .args .bytes .now) (omega arith) (c .read-number2 .ensures)
 
 pub size-at-spec : {M : Type 1} → statement M
 size-at-spec =

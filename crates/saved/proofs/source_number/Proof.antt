@@ -74,7 +74,7 @@ size-at-requires c κs = search needs
 
 -- src/lib.rt:189:9
 returns-4 : tie.Need-returns-4
-returns-4 c = other-length (c .before .before .before .before .before .before .before .before .before .before .before .before .before .args .saved .now) (c .before .size-at .ensures) (c .if4 .taken)
+returns-4 c = other-length (c .before .before .before .before .before .before .before .before .before .before .before .before .before .args .saved .now) (c .before .size-at .ensures .0) (c .if4 .taken)
 
 -- src/lib.rt:191:31
 sub-is-wrong : tie.Need-sub-is-wrong
@@ -117,14 +117,14 @@ returns-6 : tie.Need-returns-6
 returns-6 c = 
     high-control (c .before .before .before .before .before .before .before .before .before .before .before .before .before .before .before .before .before .before .before .args .saved .now) (c .before .before .before .before .before .before .before .before .before .before .before .is-packed .ensures ∙ rw (c .before .before .before .before .before .before .before .before .before .before .before .before .version-of .ensures, c .before .before .before .before .before .before .before .before .before .before .before .before .before .before .before .number-of .ensures))
     (ap noVersion (sym (c .before .before .before .before .before .before .before .before .before .before .before .before .before .before .before .number-of .ensures)) ∙ sym (c .before .before .before .before .before .before .before .before .before .before .before .before .before .before .no-version .ensures) ∙ c .before .before .before .before .before .before .before .before .before .before .before .before .before .if2 .left) (c .before .before .before .before .before .before .before .before .before .file-size .ensures .0) (c .before .before .before .before .before .before .before .before .if3 .left)
-    (c .before .before .before .before .before .before .before .size-at .ensures) (c .before .before .before .before .before .before .if4 .left) (c .before .before .before .before .is-wrong .ensures) (c .before .before .before .if5 .left) (c .before .read-number .ensures .0) (c .if6 .taken)
+    (c .before .before .before .before .before .before .before .size-at .ensures .0) (c .before .before .before .before .before .before .if4 .left) (c .before .before .before .before .is-wrong .ensures) (c .before .before .before .if5 .left) (c .before .read-number .ensures .0) (c .if6 .taken)
 
 -- src/lib.rt:174:1
 returns-7 : tie.Need-returns-7
 returns-7 c = 
     is-form (c .before .before .before .before .before .before .before .before .before .before .before .before .before .before .before .before .before .before .before .args .saved .now) (c .before .before .before .before .before .before .before .before .before .before .before .is-packed .ensures ∙ rw (c .before .before .before .before .before .before .before .before .before .before .before .before .version-of .ensures, c .before .before .before .before .before .before .before .before .before .before .before .before .before .before .before .number-of .ensures))
     (ap noVersion (sym (c .before .before .before .before .before .before .before .before .before .before .before .before .before .before .before .number-of .ensures)) ∙ sym (c .before .before .before .before .before .before .before .before .before .before .before .before .before .before .no-version .ensures) ∙ c .before .before .before .before .before .before .before .before .before .before .before .before .before .if2 .left) (c .before .before .before .before .before .before .before .before .before .file-size .ensures .0) (c .before .before .before .before .before .before .before .before .if3 .left)
-    (c .before .before .before .before .before .before .before .size-at .ensures) (c .before .before .before .before .before .before .if4 .left) (c .before .before .before .before .is-wrong .ensures) (c .before .before .before .if5 .left) (c .before .read-number .ensures .0) (omega arith)
+    (c .before .before .before .before .before .before .before .size-at .ensures .0) (c .before .before .before .before .before .before .if4 .left) (c .before .before .before .before .is-wrong .ensures) (c .before .before .before .if5 .left) (c .before .read-number .ensures .0) (omega arith)
 
 pub source-number-spec : {M : Type 1} → statement M
 source-number-spec =
