@@ -19,6 +19,7 @@ pub mod random;
 pub mod random_step;
 pub mod recorded;
 pub mod rows;
+pub mod saving;
 pub mod second;
 pub mod step_line;
 pub mod transfer;
