@@ -6,6 +6,21 @@ use crate::second;
 use crate::second::command::{saved_size, CODE_LIMIT, MEMORY_LIMIT};
 use crate::second::saved::{form, FILE_AT, LARGEST_SIZE, SMALLEST_SIZE, WHOLE_SIZE};
 
+/// zmm0 = zmm1 + zmm2.
+pub const ADD: [u8; 6] = [0x62, 0xF5, 0x74, 0x48, 0x58, 0xC2];
+/// zmm0 = zmm1 / zmm2.
+pub const DIVIDE: [u8; 6] = [0x62, 0xF5, 0x74, 0x48, 0x5E, 0xC2];
+
+/// A machine that has 1 in each lane of zmm1 and so much in each of zmm2.
+pub fn one_and(half: u16) -> Machine {
+    let mut machine = Machine::blank();
+    for lane in 0..32 {
+        machine.set_lane(1, lane, 0x3C00);
+        machine.set_lane(2, lane, half);
+    }
+    machine
+}
+
 /// Where the code begins in an input whose saved state has version 1: behind that and the code's
 /// length.
 pub const CODE_AT: usize = WHOLE_SIZE + 2;
@@ -85,16 +100,12 @@ impl Inputs {
     /// Clears no register, all, or any of them.
     fn clear_some(&mut self, machine: &mut Machine) {
         let random = &mut self.steps.random;
-        let cleared = match random.within(0, 3) {
-            0 | 1 => 0,
-            2 => u64::MAX,
-            _ => random.bits(),
+        let kept = match random.within(0, 3) {
+            0 | 1 => u32::MAX,
+            2 => 0,
+            _ => random.bits() as u32,
         };
-        for (number, register) in machine.vectors.chunks_mut(REGISTER_SIZE).enumerate() {
-            if cleared >> number & 1 == 1 {
-                register.fill(0);
-            }
-        }
+        machine.keep_registers(kept);
     }
 
     /// So many instructions, as far as the code's length allows, then perhaps other bytes. Each is

@@ -4,6 +4,7 @@
 pub mod alike;
 pub mod assemble;
 pub mod case;
+pub mod checked_command;
 pub mod command_input;
 pub mod compare;
 pub mod corners;

@@ -63,16 +63,13 @@ impl Random {
     /// them has a single bit that is not 0.
     pub fn machine_with(&mut self, word: u32) -> Machine {
         let mut machine = self.machine();
-        for (number, register) in machine.vectors.chunks_mut(REGISTER_SIZE).enumerate() {
-            let is_present = word >> number & 1 == 1;
-            let has_one_bit = self.once_in(4);
-            if !is_present || has_one_bit {
+        for register in machine.vectors.chunks_mut(REGISTER_SIZE) {
+            if self.once_in(4) {
                 register.fill(0);
-            }
-            if is_present && has_one_bit {
                 register[self.within(0, 63) as usize] = 1 << self.within(0, 7);
             }
         }
+        machine.keep_registers(word);
         machine
     }
 }
