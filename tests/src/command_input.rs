@@ -8,6 +8,8 @@ use crate::second::saved::{form, FILE_AT, LARGEST_SIZE, SMALLEST_SIZE, WHOLE_SIZ
 
 /// zmm0 = zmm1 + zmm2.
 pub const ADD: [u8; 6] = [0x62, 0xF5, 0x74, 0x48, 0x58, 0xC2];
+/// zmm0{k1} = zmm1 + what stands at RAX.
+pub const ADD_MEMORY: [u8; 6] = [0x62, 0xF5, 0x74, 0x49, 0x58, 0x00];
 /// zmm0 = zmm1 / zmm2.
 pub const DIVIDE: [u8; 6] = [0x62, 0xF5, 0x74, 0x48, 0x5E, 0xC2];
 

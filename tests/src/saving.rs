@@ -31,7 +31,7 @@ pub fn sizes() -> impl Iterator<Item = usize> {
     (0..=2300).chain(LARGE)
 }
 
-/// With the seed that `RIDGECROOK_SEED` sets.
+/// The generator of a test, with the seed that `RIDGECROOK_SEED` sets.
 pub fn random() -> Random {
     Random::seeded(setting("RIDGECROOK_SEED", SEED))
 }
@@ -41,6 +41,7 @@ pub fn states() -> u64 {
     setting("RIDGECROOK_STATES", 20_000)
 }
 
+/// A comparison of the library's calls.
 pub fn compared(name: &str) -> Comparison<Transfer> {
     Comparison::of(library::transfer_outcome, name)
 }
@@ -83,9 +84,10 @@ pub fn done(random: &mut Random, call: Call, held: u32, state: &Machine) -> Tran
         bytes: Vec::new(),
         target: Vec::new(),
     };
-    match call {
-        _ if call.reads() => transfer.bytes = form(state, held),
-        _ => transfer.machine = state.clone(),
+    if call.reads() {
+        transfer.bytes = form(state, held);
+    } else {
+        transfer.machine = state.clone();
     }
     match call {
         Call::Save => transfer.bytes = random.bytes(size(state, 1)),
@@ -106,6 +108,11 @@ pub fn done_number(call: Call, state: &Machine) -> u32 {
         Call::SavedSize(version) | Call::MovedSize(version) => size(state, version) as u32,
         _ => 0,
     }
+}
+
+/// Writes the first field of a form.
+pub fn set_length(bytes: &mut [u8], following: u32) {
+    bytes[..4].copy_from_slice(&following.to_be_bytes());
 }
 
 /// Any call, as it is done or with one to four places spoiled.
@@ -151,9 +158,9 @@ fn spoil(random: &mut Random, transfer: &mut Transfer) {
             register.unwrap_or(&mut []).fill(0);
         }
         _ => {
-            let following = bytes.len().saturating_sub(4) as u32;
-            let field = bytes.iter_mut().zip(following.to_be_bytes());
-            field.for_each(|(place, byte)| *place = byte);
+            if let Some(following) = bytes.len().checked_sub(4) {
+                set_length(bytes, following as u32);
+            }
         }
     }
 }

@@ -8,7 +8,9 @@
 
 use ridgecrook_tests::assemble::Encoding;
 use ridgecrook_tests::checked_command::{Command, BAD};
-use ridgecrook_tests::command_input::{ending, input, one_and, Inputs, ADD, CODE_AT, DIVIDE};
+use ridgecrook_tests::command_input::{
+    ending, input, one_and, Inputs, ADD, ADD_MEMORY, CODE_AT, DIVIDE,
+};
 use ridgecrook_tests::compare::{log, setting};
 use ridgecrook_tests::machine::Machine;
 use ridgecrook_tests::random::Random;
@@ -19,8 +21,6 @@ use std::thread;
 
 const SEED: u64 = 20_240_303;
 
-/// zmm0{k1} = zmm1 + what stands at RAX.
-const ADD_MEMORY: [u8; 6] = [0x62, 0xF5, 0x74, 0x49, 0x58, 0x00];
 /// k1 = zmm1 < zmm2, by LT_OS.
 const COMPARE: [u8; 7] = [0x62, 0xF3, 0x74, 0x48, 0xC2, 0xCA, 0x01];
 

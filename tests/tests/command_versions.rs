@@ -2,23 +2,17 @@
 //! standard output held against the second program's.
 
 use ridgecrook_tests::checked_command::{Command, BAD};
-use ridgecrook_tests::command_input::{input_in, one_and, ADD, DIVIDE, LARGEST_INPUT};
+use ridgecrook_tests::command_input::{input_in, one_and, ADD, ADD_MEMORY, DIVIDE, LARGEST_INPUT};
 use ridgecrook_tests::machine::{Machine, REGISTER_SIZE};
 use ridgecrook_tests::random::Random;
+use ridgecrook_tests::saving::set_length;
 use ridgecrook_tests::second::command::{saved_size, CODE_LIMIT, MEMORY_LIMIT};
 use ridgecrook_tests::second::saved::{FILE_AT, SMALLEST_SIZE, VERSIONS};
 
 const SEED: u64 = 20_240_304;
 
-/// zmm0{k1} = zmm1 + what stands at RAX.
-const ADD_MEMORY: [u8; 6] = [0x62, 0xF5, 0x74, 0x49, 0x58, 0x00];
-
 fn command(name: &'static str) -> Command {
     Command::of(name, env!("CARGO_TARGET_TMPDIR"))
-}
-
-fn set_length(bytes: &mut [u8], following: u32) {
-    bytes[..4].copy_from_slice(&following.to_be_bytes());
 }
 
 /// A state without a register that is present, byte by byte: 213 bytes, then code, then memory.

@@ -5,6 +5,7 @@
 //!
 //! `RIDGECROOK_SEED` sets the seed, `RIDGECROOK_STATES` the number of random states of each test.
 
+use ridgecrook_tests::compare::Comparison;
 use ridgecrook_tests::library;
 use ridgecrook_tests::machine::{Machine, REGISTER_SIZE};
 use ridgecrook_tests::random::Random;
@@ -12,24 +13,18 @@ use ridgecrook_tests::saving::{check_unchanged, compared, done, done_number, ran
 use ridgecrook_tests::second::saved::{form, LARGEST_SIZE, SMALLEST_SIZE, VERSIONS, WHOLE_SIZE};
 use ridgecrook_tests::transfer::{Call, Transfer};
 
-/// Holds each call with a state against the second program; none is refused. Hands back how many
-/// there were.
-fn every_call(comparison: &mut Compared, random: &mut Random, state: &Machine) -> u64 {
-    let mut cases = 0;
+/// Holds each call with a state against the second program; none is refused.
+fn every_call(comparison: &mut Comparison<Transfer>, random: &mut Random, state: &Machine) {
     for call in Call::ALL {
         let helds = if call.reads() { &VERSIONS[..] } else { &[1] };
         for &held in helds {
             let outcome = comparison.case(&done(random, call, held, state));
             assert_eq!(outcome.number, done_number(call, state), "{call}");
-            cases += 1;
         }
     }
-    cases
 }
 
-type Compared = ridgecrook_tests::compare::Comparison<Transfer>;
-
-/// Saves and two sizes, and twice a load, moves and two sizes.
+/// As many as those are: saves and their sizes, and of each version a load, moves and their sizes.
 const CALLS: u64 = 5 + 2 * 5;
 
 #[test]
@@ -56,7 +51,7 @@ fn spelled(text: &str) -> Vec<u8> {
     bytes
 }
 
-/// States, and their forms in version 2 and in version 1 behind the first five bytes' place.
+/// States, as a line has them, and their forms in version 2 and in version 1 (R9.1, R9.8).
 const ROWS: [(&str, &str, &str); 9] = [
     (
         "control=00001F80",

@@ -5,7 +5,7 @@
 use ridgecrook_tests::compare::Comparison;
 use ridgecrook_tests::machine::REGISTER_SIZE;
 use ridgecrook_tests::random::Random;
-use ridgecrook_tests::saving::{check_unchanged, compared, done, random, sizes, LARGE};
+use ridgecrook_tests::saving::{check_unchanged, compared, done, random, set_length, sizes, LARGE};
 use ridgecrook_tests::second::saved::{form, FILE_AT, SMALLEST_SIZE, VERSIONS};
 use ridgecrook_tests::transfer::{Call, Transfer};
 
@@ -20,10 +20,6 @@ const READERS: [Call; 5] = [
 
 /// Present registers, four in each byte of the word.
 const WORD: u32 = 0x0F3C_55D1;
-
-fn set_length(bytes: &mut [u8], following: usize) {
-    bytes[..4].copy_from_slice(&(following as u32).to_be_bytes());
-}
 
 /// How the readers answer, each to its own damaged form: for each number how often. A size that is
 /// not 0 counts as 0.
@@ -105,7 +101,7 @@ fn every_size_of_a_form() {
                 let damage = |bytes: &mut Vec<u8>| {
                     bytes.resize(size, 0xA5);
                     if has_own_length && size >= 4 {
-                        set_length(bytes, size - 4);
+                        set_length(bytes, size as u32 - 4);
                     }
                 };
                 answers.read(&mut comparison, &mut random, (held, WORD), damage);
@@ -139,7 +135,7 @@ fn near_length_fields() {
         for field in fields.into_iter().chain(shifted).chain(orders) {
             for call in READERS {
                 let mut transfer = done(&mut random, call, held, &state);
-                set_length(&mut transfer.bytes, field as usize);
+                set_length(&mut transfer.bytes, field);
                 let number = if call.asks_size() { 0 } else { 10 };
                 check_unchanged(&format!("length field {field}"), &transfer, number);
             }
@@ -162,7 +158,8 @@ fn registers_marked_and_there() {
             for counted in [marked, there] {
                 let damage = |bytes: &mut Vec<u8>| {
                     bytes.resize(SMALLEST_SIZE + REGISTER_SIZE * there, 0x3C);
-                    set_length(bytes, SMALLEST_SIZE - 4 + REGISTER_SIZE * counted);
+                    let following = SMALLEST_SIZE - 4 + REGISTER_SIZE * counted;
+                    set_length(bytes, following as u32);
                 };
                 answers.read(&mut comparison, &mut random, (2, word), damage);
             }

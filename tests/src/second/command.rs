@@ -1,4 +1,4 @@
-//! What the command prints (R10.1 to R10.5).
+//! What the command prints (R9.13, R10.1 to R10.5).
 
 use super::saved::{load, take};
 use super::step;
