@@ -1,17 +1,44 @@
 //! Inputs of the command: from their parts, and at random.
 
-use crate::machine::{Machine, Step, ALL_MASKED};
+use crate::machine::{Machine, Step, ALL_MASKED, REGISTER_SIZE, VECTORS_SIZE};
 use crate::random_step::Steps;
 use crate::second;
-use crate::second::command::{CODE_LIMIT, MEMORY_LIMIT};
-use crate::second::saved::{form, SAVED_SIZE};
+use crate::second::command::{saved_size, CODE_LIMIT, MEMORY_LIMIT};
+use crate::second::saved::{form, FILE_AT, LARGEST_SIZE, SMALLEST_SIZE, WHOLE_SIZE};
 
-/// Where the code begins: behind the saved state and the code's length.
-pub const CODE_AT: usize = SAVED_SIZE + 2;
+/// zmm0 = zmm1 + zmm2.
+pub const ADD: [u8; 6] = [0x62, 0xF5, 0x74, 0x48, 0x58, 0xC2];
+/// zmm0{k1} = zmm1 + what stands at RAX.
+pub const ADD_MEMORY: [u8; 6] = [0x62, 0xF5, 0x74, 0x49, 0x58, 0x00];
+/// zmm0 = zmm1 / zmm2.
+pub const DIVIDE: [u8; 6] = [0x62, 0xF5, 0x74, 0x48, 0x5E, 0xC2];
 
-/// The input of these parts, with the code's own length, of which 16 bits are kept.
+/// A machine that has 1 in each lane of zmm1 and so much in each of zmm2.
+pub fn one_and(half: u16) -> Machine {
+    let mut machine = Machine::blank();
+    for lane in 0..32 {
+        machine.set_lane(1, lane, 0x3C00);
+        machine.set_lane(2, lane, half);
+    }
+    machine
+}
+
+/// Where the code begins in an input whose saved state has version 1: behind that and the code's
+/// length.
+pub const CODE_AT: usize = WHOLE_SIZE + 2;
+
+/// The most bytes that a good input has (R10.7).
+pub const LARGEST_INPUT: usize = LARGEST_SIZE + 2 + CODE_LIMIT + MEMORY_LIMIT;
+
+/// The input of these parts, with the state saved in version 1.
 pub fn input(machine: &Machine, code: &[u8], memory: &[u8]) -> Vec<u8> {
-    let mut bytes = form(machine);
+    input_in(1, machine, code, memory)
+}
+
+/// The input of these parts, with the state saved in a version and the code's own length, of which
+/// 16 bits are kept.
+pub fn input_in(version: u32, machine: &Machine, code: &[u8], memory: &[u8]) -> Vec<u8> {
+    let mut bytes = form(machine, version);
     bytes.extend((code.len() as u16).to_be_bytes());
     bytes.extend(code);
     bytes.extend(memory);
@@ -37,10 +64,6 @@ pub struct Inputs {
     steps: Steps,
 }
 
-/// Where an input is cut or changed: the saved form's length, version and control word, the code's
-/// length.
-const HEADER: [usize; 11] = [0, 1, 2, 3, 4, 5, 6, 7, 8, SAVED_SIZE, SAVED_SIZE + 1];
-
 impl Inputs {
     pub fn seeded(seed: u64) -> Inputs {
         Inputs {
@@ -52,8 +75,9 @@ impl Inputs {
     /// instruction; one in six is damaged.
     pub fn input(&mut self) -> Vec<u8> {
         let mut bytes = if self.steps.random.once_in(4) {
-            let step = self.steps.step();
-            input(&step.machine, &step.code, &step.memory)
+            let mut step = self.steps.step();
+            self.clear_some(&mut step.machine);
+            self.in_any_version(&step.machine, &step.code, &step.memory)
         } else {
             let count = self.steps.random.within(0, 12);
             self.sequence(count as usize, 3)
@@ -62,6 +86,28 @@ impl Inputs {
             self.damage(&mut bytes);
         }
         bytes
+    }
+
+    /// The input of these parts in either version.
+    fn in_any_version(&mut self, machine: &Machine, code: &[u8], memory: &[u8]) -> Vec<u8> {
+        let is_whole = machine.vectors.len() == VECTORS_SIZE;
+        let version = if is_whole && self.steps.random.once_in(2) {
+            2
+        } else {
+            1
+        };
+        input_in(version, machine, code, memory)
+    }
+
+    /// Clears no register, all, or any of them.
+    fn clear_some(&mut self, machine: &mut Machine) {
+        let random = &mut self.steps.random;
+        let kept = match random.within(0, 3) {
+            0 | 1 => u32::MAX,
+            2 => 0,
+            _ => random.bits() as u32,
+        };
+        machine.keep_registers(kept);
     }
 
     /// So many instructions, as far as the code's length allows, then perhaps other bytes. Each is
@@ -81,12 +127,13 @@ impl Inputs {
             code.extend(self.steps.random.bytes(extra));
             code.truncate(CODE_LIMIT);
         }
-        input(&start, &code, &memory)
+        self.in_any_version(&start, &code, &memory)
     }
 
     /// Two in three mask every exception, so that long sequences are not rare.
     fn start(&mut self) -> (Machine, Vec<u8>) {
         let (mut machine, mut memory) = self.steps.start();
+        self.clear_some(&mut machine);
         if !self.steps.random.once_in(3) {
             machine.control |= ALL_MASKED;
         }
@@ -121,22 +168,28 @@ impl Inputs {
         (step.code, step.machine)
     }
 
-    /// Cuts the input, changes its header, or makes its memory larger, which may be too large.
+    /// Cuts the input, changes a bit of a number that counts or marks, clears what may be a present
+    /// register, or makes the memory larger, which may be too large.
     fn damage(&mut self, bytes: &mut Vec<u8>) {
         let random = &mut self.steps.random;
-        match random.within(0, 3) {
+        let saved = saved_size(bytes).expect("an input that is not damaged yet");
+        match random.within(0, 4) {
             0 => {
                 let kept = random.within(0, bytes.len() as i32);
                 bytes.truncate(kept as usize);
             }
             1 | 2 => {
-                let place = random.one_of(&HEADER);
-                if let Some(byte) = bytes.get_mut(place) {
-                    *byte ^= 1 << random.within(0, 7);
-                }
+                // Length, version and control word; the word of version 2; the code's length.
+                let places = [0..9, FILE_AT..FILE_AT + 4, saved..saved + 2];
+                let places: Vec<usize> = places.into_iter().flatten().collect();
+                bytes[random.one_of(&places)] ^= 1 << random.within(0, 7);
+            }
+            3 => {
+                let first = bytes[SMALLEST_SIZE..].iter_mut().take(REGISTER_SIZE);
+                first.for_each(|byte| *byte = 0);
             }
             _ => {
-                let largest = (CODE_AT + MEMORY_LIMIT) as i32;
+                let largest = (saved + 2 + MEMORY_LIMIT) as i32;
                 let size = random.within(largest - 200, largest + 200);
                 bytes.resize(size as usize, 0x3C);
             }

@@ -4,6 +4,7 @@
 pub mod alike;
 pub mod assemble;
 pub mod case;
+pub mod checked_command;
 pub mod command_input;
 pub mod compare;
 pub mod corners;
@@ -19,6 +20,7 @@ pub mod random;
 pub mod random_step;
 pub mod recorded;
 pub mod rows;
+pub mod saving;
 pub mod second;
 pub mod step_line;
 pub mod transfer;

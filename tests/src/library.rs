@@ -2,7 +2,7 @@
 
 use crate::case::{Arithmetic, Case, Outcome};
 use crate::machine::{Answer, Machine, Step, StepOutcome};
-use crate::transfer::{Direction, Transfer, TransferOutcome};
+use crate::transfer::{Call, Transfer, TransferOutcome};
 
 extern "C" {
     fn ridgecrook_add(a: u16, b: u16, mode: u32, underflow_unmasked: u32) -> Outcome;
@@ -52,6 +52,26 @@ extern "C" {
         control: *mut u32,
         pointer: *mut u64,
     ) -> u32;
+    fn ridgecrook_save_version(
+        version: u32,
+        vectors: *const u8,
+        vectors_length: usize,
+        masks: *const u64,
+        general: *const u64,
+        control: u32,
+        pointer: u64,
+        target: *mut u8,
+        target_length: usize,
+    ) -> u32;
+    fn ridgecrook_move(
+        version: u32,
+        source: *const u8,
+        source_length: usize,
+        target: *mut u8,
+        target_length: usize,
+    ) -> u32;
+    fn ridgecrook_saved_size(version: u32, vectors: *const u8, vectors_length: usize) -> usize;
+    fn ridgecrook_moved_size(version: u32, source: *const u8, source_length: usize) -> usize;
 }
 
 // Safety of the calls of the arithmetic: the functions take numbers alone, accept every number and
@@ -183,12 +203,62 @@ pub fn load(saved: &mut [u8], machine: &mut Machine) -> u32 {
     }
 }
 
-/// What the library answers to a save or a load and leaves of it.
+/// A save in a version; everything is lent in the same way, here and below.
+pub fn save_version(version: u32, machine: &mut Machine, target: &mut [u8]) -> u32 {
+    // Safety: as in `step`.
+    unsafe {
+        ridgecrook_save_version(
+            version,
+            machine.vectors.as_mut_ptr().cast_const(),
+            machine.vectors.len(),
+            machine.masks.as_mut_ptr().cast_const(),
+            machine.general.as_mut_ptr().cast_const(),
+            machine.control,
+            machine.pointer,
+            target.as_mut_ptr(),
+            target.len(),
+        )
+    }
+}
+
+/// A move to a version.
+pub fn move_saved(version: u32, source: &mut [u8], target: &mut [u8]) -> u32 {
+    // Safety: as in `step`.
+    unsafe {
+        ridgecrook_move(
+            version,
+            source.as_mut_ptr().cast_const(),
+            source.len(),
+            target.as_mut_ptr(),
+            target.len(),
+        )
+    }
+}
+
+/// The size that a save in a version needs.
+pub fn saved_size(version: u32, vectors: &mut [u8]) -> usize {
+    // Safety: as in `step`.
+    unsafe { ridgecrook_saved_size(version, vectors.as_mut_ptr().cast_const(), vectors.len()) }
+}
+
+/// The size that a move to a version needs.
+pub fn moved_size(version: u32, source: &mut [u8]) -> usize {
+    // Safety: as in `step`.
+    unsafe { ridgecrook_moved_size(version, source.as_mut_ptr().cast_const(), source.len()) }
+}
+
+/// What the library answers to a save, a load, a move or a question for a size, and leaves of it.
 pub fn transfer_outcome(before: &Transfer) -> TransferOutcome {
     let mut after = before.clone();
-    let number = match after.direction {
-        Direction::Save => save(&mut after.machine, &mut after.bytes),
-        Direction::Load => load(&mut after.bytes, &mut after.machine),
+    let (machine, bytes) = (&mut after.machine, &mut after.bytes);
+    let shown = |size: usize| u32::try_from(size).unwrap_or(u32::MAX);
+    let number = match after.call {
+        Call::Save => save(machine, bytes),
+        Call::SaveVersion(version) => save_version(version, machine, bytes),
+        Call::Load => load(bytes, machine),
+        Call::Move(version) => move_saved(version, bytes, &mut after.target),
+        Call::SavedSize(version) => shown(saved_size(version, &mut machine.vectors)),
+        Call::MovedSize(version) => shown(moved_size(version, bytes)),
     };
     TransferOutcome { number, after }
 }

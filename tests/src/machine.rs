@@ -29,6 +29,16 @@ impl Machine {
         }
     }
 
+    /// Clears each register whose bit is not set in the word.
+    pub fn keep_registers(&mut self, word: u32) {
+        let registers = self.vectors.chunks_mut(REGISTER_SIZE).take(32);
+        for (number, register) in registers.enumerate() {
+            if word >> number & 1 == 0 {
+                register.fill(0);
+            }
+        }
+    }
+
     pub fn lane(&self, register: usize, lane: usize) -> u16 {
         let at = REGISTER_SIZE * register + 2 * lane;
         u16::from_le_bytes([self.vectors[at], self.vectors[at + 1]])

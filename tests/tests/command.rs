@@ -7,81 +7,30 @@
 //! it.
 
 use ridgecrook_tests::assemble::Encoding;
-use ridgecrook_tests::command_input::{ending, input, Inputs, CODE_AT};
+use ridgecrook_tests::checked_command::{Command, BAD};
+use ridgecrook_tests::command_input::{
+    ending, input, one_and, Inputs, ADD, ADD_MEMORY, CODE_AT, DIVIDE,
+};
 use ridgecrook_tests::compare::{log, setting};
 use ridgecrook_tests::machine::Machine;
-use ridgecrook_tests::program::Program;
 use ridgecrook_tests::random::Random;
 use ridgecrook_tests::second::command::{output, CODE_LIMIT, MEMORY_LIMIT};
 use ridgecrook_tests::second::encoding::LIST;
 use std::fs;
-use std::path::{Path, PathBuf};
 use std::thread;
 
 const SEED: u64 = 20_240_303;
 
-/// zmm0 = zmm1 + zmm2.
-const ADD: [u8; 6] = [0x62, 0xF5, 0x74, 0x48, 0x58, 0xC2];
-/// zmm0{k1} = zmm1 + what stands at RAX.
-const ADD_MEMORY: [u8; 6] = [0x62, 0xF5, 0x74, 0x49, 0x58, 0x00];
-const DIVIDE: [u8; 6] = [0x62, 0xF5, 0x74, 0x48, 0x5E, 0xC2];
 /// k1 = zmm1 < zmm2, by LT_OS.
 const COMPARE: [u8; 7] = [0x62, 0xF3, 0x74, 0x48, 0xC2, 0xCA, 0x01];
 
-const BAD: &str = "bad input\n";
-
-/// The command, and what its inputs are called.
-struct Command {
-    program: Program,
-    name: &'static str,
-}
-
-impl Command {
-    fn of(name: &'static str) -> Command {
-        Command {
-            program: Program::found(),
-            name,
-        }
-    }
-
-    /// A file below the folder that cargo keeps for tests.
-    fn file(&self, number: usize) -> PathBuf {
-        let folder = Path::new(env!("CARGO_TARGET_TMPDIR"));
-        folder.join(format!("{}-{number}.bin", self.name.replace(' ', "-")))
-    }
-
-    /// Whether the program prints what the second program does, which is handed back.
-    fn agrees(&self, number: usize, input: &[u8]) -> String {
-        let expected = output(input);
-        let printed = self.program.output(input);
-        if printed != expected.as_bytes() {
-            let file = self.file(number);
-            fs::write(&file, input).expect("an input can be kept");
-            let (file, printed) = (file.display(), String::from_utf8_lossy(&printed));
-            panic!("{file}: printed\n{printed}expected\n{expected}");
-        }
-        expected
-    }
-
-    /// An input whose output is known.
-    fn prints(&self, number: usize, input: &[u8], known: &str) {
-        assert_eq!(self.agrees(number, input), known, "the second program");
-    }
-}
-
-/// A machine that has 1 in each lane of zmm1 and so much in each of zmm2.
-fn one_and(half: u16) -> Machine {
-    let mut machine = Machine::blank();
-    for lane in 0..32 {
-        machine.set_lane(1, lane, 0x3C00);
-        machine.set_lane(2, lane, half);
-    }
-    machine
+fn command(name: &'static str) -> Command {
+    Command::of(name, env!("CARGO_TARGET_TMPDIR"))
 }
 
 #[test]
 fn the_whole_case() {
-    let command = Command::of("the whole case");
+    let command = command("the whole case");
     let bytes = input(&Machine::blank(), &ADD, &[]);
     assert_eq!(bytes.len(), 2265);
     command.prints(0, &bytes, "0 0 00001f80\nstop 6\n");
@@ -90,7 +39,7 @@ fn the_whole_case() {
 /// R10.5: where it ends, from a blank state: code, memory, output.
 #[test]
 fn ends_and_refusals() {
-    let command = Command::of("ends and refusals");
+    let command = command("ends and refusals");
     let twice = [ADD, ADD].concat();
     let stops = [&ADD[..], &[0x90], &ADD].concat();
     let cut = "0 0 00001f80\n6 3 00001f80\nstop 6\n";
@@ -122,7 +71,7 @@ fn ends_and_refusals() {
 /// The control word is printed as it stands after the step, also after 8.
 #[test]
 fn flags_are_printed() {
-    let command = Command::of("flags are printed");
+    let command = command("flags are printed");
     // 1/3 is inexact, and the flag stays.
     let code = [ADD, DIVIDE, ADD].concat();
     let known = "0 0 00001f80\n6 0 00001fa0\n12 0 00001fa0\nstop 18\n";
@@ -140,7 +89,7 @@ fn flags_are_printed() {
 /// A mask that one step writes is the next one's.
 #[test]
 fn a_mask_is_handed_on() {
-    let command = Command::of("a mask is handed on");
+    let command = command("a mask is handed on");
     // 1 < 0 nowhere, 1 < 3 everywhere; then 1 + what stands at RAX, where that is a subnormal.
     let code = [&COMPARE[..], &ADD_MEMORY].concat();
     for (number, (half, memory, known)) in [
@@ -166,7 +115,7 @@ fn a_mask_is_handed_on() {
 /// The pointer of the saved state is not the offset, and wraps.
 #[test]
 fn a_pointer_of_its_own() {
-    let command = Command::of("a pointer of its own");
+    let command = command("a pointer of its own");
     // zmm0{k1} = zmm1 + what stands 0 after the next instruction
     let relative = [0x62, 0xF5, 0x74, 0x49, 0x58, 0x05, 0, 0, 0, 0];
     let code = [relative, relative].concat();
@@ -194,7 +143,7 @@ fn a_pointer_of_its_own() {
 /// 4,096 bytes of code run; 4,097 are refused, as is every larger length.
 #[test]
 fn lengths_of_code() {
-    let command = Command::of("lengths of code");
+    let command = command("lengths of code");
     let machine = one_and(0x4200);
     let mut code = ADD.repeat(682);
     code.extend([0x62; 4]);
@@ -223,7 +172,7 @@ fn lengths_of_code() {
 /// 32,768 bytes of memory are read to the last; one more is refused, and so is any number more.
 #[test]
 fn lengths_of_memory() {
-    let command = Command::of("lengths of memory");
+    let command = command("lengths of memory");
     let mut machine = one_and(0);
     machine.masks[1] = 1;
     machine.control = 0x1E80;
@@ -255,7 +204,7 @@ fn lengths_of_memory() {
 /// Cut at every place of the header and behind it, and at some of the vector file.
 #[test]
 fn every_cut() {
-    let command = Command::of("every cut");
+    let command = command("every cut");
     let code = [ADD, ADD].concat();
     let bytes = input(&one_and(0x4200), &code, &[7; 5]);
     let header = 0..=220;
@@ -273,7 +222,7 @@ fn every_cut() {
 /// word's upper half; and each bit of the code's length.
 #[test]
 fn every_damage() {
-    let command = Command::of("every damage");
+    let command = command("every damage");
     let bytes = input(&one_and(0x4200), &[ADD, ADD].concat(), &[7; 5]);
     let mut refused = 0;
     for place in (0..9).chain(CODE_AT - 2..CODE_AT) {
@@ -297,7 +246,7 @@ fn every_damage() {
 /// A code length that is a byte beyond the end, and one that takes all that follows.
 #[test]
 fn code_to_the_end() {
-    let command = Command::of("code to the end");
+    let command = command("code to the end");
     let mut bytes = input(&Machine::blank(), &ADD, &[0x62, 0xF5]);
     for (number, (length, known)) in [
         (5, "0 3 00001f80\nstop 0\n"),
@@ -318,7 +267,7 @@ fn code_to_the_end() {
 /// Input that comes in pieces, as a pipe may give it, and from a file.
 #[test]
 fn input_in_pieces() {
-    let command = Command::of("input in pieces");
+    let command = command("input in pieces");
     let mut inputs = Inputs::seeded(setting("RIDGECROOK_SEED", SEED));
     let mut random = Random::seeded(SEED);
     for number in 0..40 {
@@ -346,7 +295,7 @@ fn input_in_pieces() {
 /// Hundreds of instructions, up to 4,096 bytes of code.
 #[test]
 fn long_sequences() {
-    let command = Command::of("long sequences");
+    let command = command("long sequences");
     let mut inputs = Inputs::seeded(setting("RIDGECROOK_SEED", SEED));
     let mut longest = 0;
     for number in 0..20 {
@@ -358,15 +307,16 @@ fn long_sequences() {
 
 const THREADS: u64 = 4;
 
-/// One thread's share; how many ended in which way.
-fn share(seed: u64, count: u64) -> [u64; 11] {
-    let command = Command::of("random inputs");
+/// One thread's share; for each version byte, how many ended in which way.
+fn share(seed: u64, count: u64) -> [[u64; 11]; 2] {
+    let command = command("random inputs");
     let mut inputs = Inputs::seeded(seed);
-    let mut endings = [0; 11];
+    let mut endings = [[0; 11]; 2];
     for number in 0..count {
         let bytes = inputs.input();
         let text = command.agrees((seed + number) as usize, &bytes);
-        endings[ending(&text)] += 1;
+        let is_packed = bytes.get(4) == Some(&2);
+        endings[usize::from(is_packed)][ending(&text)] += 1;
     }
     endings
 }
@@ -379,17 +329,22 @@ fn random_inputs_agree() {
     let threads: Vec<_> = seeds
         .map(|seed| thread::spawn(move || share(seed, count)))
         .collect();
-    let mut endings = [0; 11];
+    let mut endings = [[0; 11]; 2];
     for thread in threads {
         let more = thread.join().expect("a thread found a difference");
-        endings.iter_mut().zip(more).for_each(|(all, n)| *all += n);
+        let all = endings.iter_mut().flatten();
+        all.zip(more.iter().flatten())
+            .for_each(|(all, n)| *all += n);
     }
-    let total: u64 = endings.iter().sum();
+    let total: u64 = endings.iter().flatten().sum();
     log(&format!("{total} random inputs ended by {endings:?}"));
     assert_eq!(total, THREADS * count);
     if total >= 10_000 {
-        for reached in [0, 3, 4, 5, 7, 8, 10] {
-            assert!(endings[reached] >= 20, "{reached}: {}", endings[reached]);
+        for (version, endings) in (1..).zip(endings) {
+            for reached in [0, 3, 4, 5, 7, 8, 10] {
+                let count = endings[reached];
+                assert!(count >= 20, "version {version}, {reached}: {count}");
+            }
         }
     }
 }

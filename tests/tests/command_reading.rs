@@ -1,7 +1,7 @@
 //! How the command reads its standard input (R10.7): only input that was read to its end is run; if
 //! a read fails, one line on standard error says so.
 
-use ridgecrook_tests::command_input::input;
+use ridgecrook_tests::command_input::{input, ADD};
 use ridgecrook_tests::machine::Machine;
 use ridgecrook_tests::program::Program;
 use ridgecrook_tests::second::command::output;
@@ -29,8 +29,7 @@ fn printed_of(socket: UnixStream) -> (String, String) {
 
 /// Two sums and some memory.
 fn good_input() -> Vec<u8> {
-    let sum = [0x62, 0xF5, 0x74, 0x48, 0x58, 0xC2];
-    let bytes = input(&Machine::blank(), &[sum, sum].concat(), &[7; 5]);
+    let bytes = input(&Machine::blank(), &[ADD, ADD].concat(), &[7; 5]);
     assert!(output(&bytes).ends_with("stop 12\n"));
     bytes
 }

@@ -1,182 +1,187 @@
-//! The saved form (R9.1 to R9.7, R12.3) by library and second program: random states, every size,
-//! every damaged byte of the header, the order of the refusals, and both round trips. All that is
-//! lent to a call is compared after it, so a refusal that changes anything differs.
+//! The saved form in its two versions (R9.1 to R9.9, R12.3) by library and second program: forms
+//! written out by hand, random states, sets of present registers, registers of a single byte,
+//! control words. All that is lent to a call is compared after it, so a refusal that changes
+//! anything differs.
 //!
 //! `RIDGECROOK_SEED` sets the seed, `RIDGECROOK_STATES` the number of random states of each test.
 
-use ridgecrook_tests::compare::{failure, setting, Comparison};
+use ridgecrook_tests::compare::Comparison;
 use ridgecrook_tests::library;
-use ridgecrook_tests::machine::{Machine, VECTORS_SIZE};
+use ridgecrook_tests::machine::{Machine, REGISTER_SIZE};
 use ridgecrook_tests::random::Random;
-use ridgecrook_tests::second;
-use ridgecrook_tests::second::saved::{form, SAVED_SIZE};
-use ridgecrook_tests::transfer::{Direction, Transfer, TransferOutcome};
+use ridgecrook_tests::saving::{check_unchanged, compared, done, done_number, random, states};
+use ridgecrook_tests::second::saved::{form, LARGEST_SIZE, SMALLEST_SIZE, VERSIONS, WHOLE_SIZE};
+use ridgecrook_tests::transfer::{Call, Transfer};
 
-const SEED: u64 = 20_240_302;
-
-/// Larger than any size that is right. (`tests/c/saved.c` has sizes above 2 to the 32.)
-const LARGE: [usize; 7] = [2305, 4096, 4514, 65_536, 65_536 + 2048, 67_793, 1 << 20];
-
-fn random() -> Random {
-    Random::seeded(setting("RIDGECROOK_SEED", SEED))
-}
-
-fn states() -> u64 {
-    setting("RIDGECROOK_STATES", 20_000)
-}
-
-/// A save into a target that holds any bytes.
-fn good_save(random: &mut Random) -> Transfer {
-    Transfer {
-        direction: Direction::Save,
-        machine: random.machine(),
-        bytes: random.bytes(SAVED_SIZE),
+/// Holds each call with a state against the second program; none is refused.
+fn every_call(comparison: &mut Comparison<Transfer>, random: &mut Random, state: &Machine) {
+    for call in Call::ALL {
+        let helds = if call.reads() { &VERSIONS[..] } else { &[1] };
+        for &held in helds {
+            let outcome = comparison.case(&done(random, call, held, state));
+            assert_eq!(outcome.number, done_number(call, state), "{call}");
+        }
     }
 }
 
-/// A load of one state over another; the control word that is overwritten has any bits.
-fn good_load(random: &mut Random) -> Transfer {
-    let mut machine = random.machine();
-    machine.control = random.bits() as u32;
-    Transfer {
-        direction: Direction::Load,
-        machine,
-        bytes: form(&random.machine()),
-    }
-}
-
-fn good(random: &mut Random, direction: Direction) -> Transfer {
-    match direction {
-        Direction::Save => good_save(random),
-        Direction::Load => good_load(random),
-    }
-}
-
-fn compared(name: &str) -> Comparison<Transfer> {
-    Comparison::of(library::transfer_outcome, name)
-}
+/// As many as those are: saves and their sizes, and of each version a load, moves and their sizes.
+const CALLS: u64 = 5 + 2 * 5;
 
 #[test]
 fn random_states_agree() {
     let mut random = random();
-    let mut comparison = compared("saves and loads of random states");
-    for _ in 0..states() {
-        for direction in Direction::BOTH {
-            let outcome = comparison.case(&good(&mut random, direction));
-            assert_eq!(outcome.number, 0);
+    let mut comparison = compared("calls with random states");
+    let count = states().div_ceil(5);
+    for _ in 0..count {
+        let state = random.sparse_machine();
+        every_call(&mut comparison, &mut random, &state);
+    }
+    comparison.finish(CALLS * count);
+}
+
+/// The bytes of a text: pairs of digits, and `00x200` for a byte that stands 200 times.
+fn spelled(text: &str) -> Vec<u8> {
+    let mut bytes = Vec::new();
+    for word in text.split_whitespace() {
+        let (digits, count) = word.split_once('x').unwrap_or((word, "1"));
+        let line = format!("load bytes={digits}");
+        let piece = line.parse::<Transfer>().expect(word).bytes;
+        bytes.extend(piece.repeat(count.parse().expect(word)));
+    }
+    bytes
+}
+
+/// States, as a line has them, and their forms in version 2 and in version 1 (R9.1, R9.8).
+const ROWS: [(&str, &str, &str); 9] = [
+    (
+        "control=00001F80",
+        "000000D1 02 00001F80 00x200 00000000",
+        "000008CD 01 00001F80 00x200 00x2048",
+    ),
+    (
+        "control=00000000 z0=3C01",
+        "00000111 02 00000000 00x200 00000001 013C 00x62",
+        "000008CD 01 00000000 00x200 013C 00x2046",
+    ),
+    (
+        "control=0000FFFF z31=0000x31,BC02",
+        "00000111 02 0000FFFF 00x200 80000000 00x62 02BC",
+        "000008CD 01 0000FFFF 00x200 00x2046 02BC",
+    ),
+    // A register of negative zeros is present.
+    (
+        "z16=8000x32",
+        "00000111 02 00001F80 00x200 00010000 0080x32",
+        "000008CD 01 00001F80 00x200 00x1024 0080x32 00x960",
+    ),
+    // Neighbours on both sides of a byte of the word, in rising order.
+    (
+        "z7=0007 z8=0800",
+        "00000151 02 00001F80 00x200 00000180 0700 00x62 0008 00x62",
+        "000008CD 01 00001F80 00x200 00x448 0700 00x62 0008 00x62 00x1472",
+    ),
+    (
+        "z15=0100 z23=0000,0001 z24=0000x31,8000",
+        "00000191 02 00001F80 00x200 01808000 0001 00x62 00x2 0100 00x60 00x63 80",
+        "000008CD 01 00001F80 00x200 00x961 01 00x62 00x448 00x2 0100 00x60 00x63 80 00x448",
+    ),
+    (
+        "z0=1111x32 z1=2222x32 z30=3333x32 z31=4444x32",
+        "000001D1 02 00001F80 00x200 C0000003 11x64 22x64 33x64 44x64",
+        "000008CD 01 00001F80 00x200 11x64 22x64 00x1792 33x64 44x64",
+    ),
+    // The numbers, each in its place.
+    (
+        "control=00009F81 pointer=102030405060708 k0=3132333435363738 k7=4142434445464748 \
+         r0=1112131415161718 r15=2122232425262728 z5=0000,A5A5",
+        "00000111 02 00009F81 0102030405060708 1112131415161718 00x112 2122232425262728 \
+         3132333435363738 00x48 4142434445464748 00000020 0000A5A5 00x60",
+        "000008CD 01 00009F81 0102030405060708 1112131415161718 00x112 2122232425262728 \
+         3132333435363738 00x48 4142434445464748 00x320 0000A5A5 00x60 00x1664",
+    ),
+    (
+        "k1=1 r4=FFFFFFFFFFFFFFFF z2=0001",
+        "00000111 02 00001F80 00x8 00x32 FFx8 00x88 00x8 0000000000000001 00x48 00000004 0100 \
+         00x62",
+        "000008CD 01 00001F80 00x8 00x32 FFx8 00x88 00x8 0000000000000001 00x48 00x128 0100 \
+         00x1918",
+    ),
+];
+
+/// The rows by both programs: saves, loads and moves from each form to each.
+#[test]
+fn forms_written_out() {
+    for (line, packed, whole) in ROWS {
+        let machine = format!("save {line}")
+            .parse::<Transfer>()
+            .expect(line)
+            .machine;
+        let forms = [spelled(whole), spelled(packed)];
+        assert_eq!(forms[0].len(), WHOLE_SIZE, "{line}");
+        for (version, expected) in VERSIONS.into_iter().zip(&forms) {
+            assert_eq!(form(&machine, version), *expected, "second program: {line}");
+            let mut target = vec![0xA5; expected.len()];
+            let saved = library::save_version(version, &mut machine.clone(), &mut target);
+            assert_eq!((saved, &target), (0, expected), "{line}");
+            let mut loaded = random().machine();
+            let answer = library::load(&mut expected.clone(), &mut loaded);
+            assert_eq!((answer, &loaded), (0, &machine), "{line}");
+            for source in &forms {
+                target.fill(0xA5);
+                let moved = library::move_saved(version, &mut source.clone(), &mut target);
+                assert_eq!((moved, &target), (0, expected), "{line}");
+            }
+        }
+        let mut target = vec![0xA5; WHOLE_SIZE];
+        assert_eq!(library::save(&mut machine.clone(), &mut target), 0);
+        assert_eq!(target, forms[0], "{line}");
+    }
+}
+
+/// None, all, each alone, each missing, and any.
+#[test]
+fn sets_of_registers() {
+    let mut random = random();
+    let mut comparison = compared("sets of present registers");
+    let mut words = vec![0, u32::MAX];
+    words.extend((0..32).flat_map(|number| [1 << number, !(1 << number)]));
+    words.extend((0..100).map(|_| random.bits() as u32));
+    let mut sizes = Vec::new();
+    for &word in &words {
+        let state = random.machine_with(word);
+        every_call(&mut comparison, &mut random, &state);
+        sizes.push(form(&state, 2).len());
+    }
+    comparison.finish(CALLS * (2 + 64 + 100));
+    assert_eq!(sizes[0], SMALLEST_SIZE, "none is present");
+    assert_eq!(sizes[1], LARGEST_SIZE, "all are");
+    let alone = sizes[2..66].iter().filter(|&&size| size == 277);
+    assert_eq!(alone.count(), 32);
+}
+
+/// Registers of which one byte is not 0, at each place, by its lowest or its highest bit.
+#[test]
+fn registers_of_one_byte() {
+    let mut random = random();
+    let mut comparison = compared("registers of one byte");
+    for at in 0..32 * REGISTER_SIZE {
+        for byte in [0x01, 0x80] {
+            let mut state = Machine::blank();
+            state.vectors[at] = byte;
+            for (call, held) in [
+                (Call::SaveVersion(2), 1),
+                (Call::Load, 2),
+                (Call::Move(1), 2),
+                (Call::Move(2), 1),
+                (Call::MovedSize(2), 1),
+            ] {
+                let case = done(&mut random, call, held, &state);
+                let number = comparison.case(&case).number;
+                assert_eq!(number, done_number(call, &state));
+            }
         }
     }
-    comparison.finish(2 * states());
-}
-
-/// One state and its form, written out by hand.
-#[test]
-fn the_layout() {
-    let mut machine = Machine::blank();
-    machine.control = 0x9F81;
-    machine.pointer = 0x0102_0304_0506_0708;
-    machine.general[0] = 0x1112_1314_1516_1718;
-    machine.general[15] = 0x2122_2324_2526_2728;
-    machine.masks[0] = 0x3132_3334_3536_3738;
-    machine.masks[7] = 0x4142_4344_4546_4748;
-    machine.set_lane(0, 0, 0x3C01);
-    machine.set_lane(31, 31, 0xBC02);
-    let mut expected = [0; 2257];
-    expected[0..9].copy_from_slice(&[0x00, 0x00, 0x08, 0xCD, 0x01, 0x00, 0x00, 0x9F, 0x81]);
-    expected[9..17].copy_from_slice(&[1, 2, 3, 4, 5, 6, 7, 8]);
-    expected[17..25].copy_from_slice(&[0x11, 0x12, 0x13, 0x14, 0x15, 0x16, 0x17, 0x18]);
-    expected[137..145].copy_from_slice(&[0x21, 0x22, 0x23, 0x24, 0x25, 0x26, 0x27, 0x28]);
-    expected[145..153].copy_from_slice(&[0x31, 0x32, 0x33, 0x34, 0x35, 0x36, 0x37, 0x38]);
-    expected[201..209].copy_from_slice(&[0x41, 0x42, 0x43, 0x44, 0x45, 0x46, 0x47, 0x48]);
-    expected[209..211].copy_from_slice(&[0x01, 0x3C]);
-    expected[2255..2257].copy_from_slice(&[0x02, 0xBC]);
-    let mut target = [0xA5; 2257];
-    assert_eq!(library::save(&mut machine.clone(), &mut target), 0);
-    assert_eq!(target, expected);
-    let mut loaded = Machine::blank();
-    assert_eq!(library::load(&mut expected, &mut loaded), 0);
-    assert_eq!(loaded, machine);
-    assert_eq!(form(&machine), expected, "the second program");
-}
-
-/// Of the target or the saved form, and of the vector file: from 0 to 2,300, and some large.
-#[test]
-fn every_size() {
-    let mut random = random();
-    let mut comparison = compared("sizes of targets, saved forms and vector files");
-    let mut done = 0;
-    for size in (0..=2300).chain(LARGE) {
-        for direction in Direction::BOTH {
-            let mut transfer = good(&mut random, direction);
-            transfer.bytes.resize(size, 0xA5);
-            done += u32::from(comparison.case(&transfer).number == 0);
-            let mut transfer = good(&mut random, direction);
-            transfer.machine.vectors.resize(size, 0xA5);
-            done += u32::from(comparison.case(&transfer).number == 0);
-        }
-    }
-    comparison.finish(4 * (2301 + LARGE.len() as u64));
-    assert_eq!(done, 4, "one size is right");
-}
-
-/// A form of another size whose length field says so is refused all the same.
-#[test]
-fn a_true_length_field_does_not_help() {
-    let mut random = random();
-    let mut comparison = compared("saved forms of other sizes with their own length");
-    for size in (4..=2300).chain(LARGE) {
-        let mut transfer = good_load(&mut random);
-        transfer.bytes.resize(size, 0xA5);
-        transfer.bytes[..4].copy_from_slice(&(size as u32 - 4).to_be_bytes());
-        let expected = if size == SAVED_SIZE { 0 } else { 10 };
-        assert_eq!(comparison.case(&transfer).number, expected);
-    }
-    comparison.finish(2297 + LARGE.len() as u64);
-}
-
-/// Each byte of the length field, of the version and of the control word at every value.
-#[test]
-fn every_byte_of_the_header() {
-    let mut random = random();
-    let mut comparison = compared("bytes of the header");
-    let mut answers = [0; 11];
-    for place in 0..9 {
-        for value in 0..=255 {
-            let mut transfer = good_load(&mut random);
-            transfer.bytes[place] = value;
-            answers[comparison.case(&transfer).number as usize] += 1;
-        }
-    }
-    comparison.finish(9 * 256);
-    assert_eq!(answers[10], 5 * 255, "each byte has one right value");
-    assert_eq!(answers[2], 2 * 255, "two high bytes of the control word");
-    assert_eq!(answers[0], 5 + 2 + 2 * 256);
-}
-
-/// Length fields that an error may confuse with 2,253: the total size, its bytes in another order,
-/// counts that begin behind the version, and what is equal in 8 or 16 bits.
-#[test]
-fn near_length_fields() {
-    let mut random = random();
-    let fields: [u32; 12] = [
-        2252,
-        2254,
-        2257,
-        2256,
-        2249,
-        2048,
-        0xCD08_0000,
-        0xCD08,
-        0x1_08CD,
-        0x8000_08CD,
-        0x08CD_0000,
-        0xCD,
-    ];
-    for field in fields {
-        let mut transfer = good_load(&mut random);
-        transfer.bytes[..4].copy_from_slice(&field.to_be_bytes());
-        check(&format!("length field {field}"), &transfer, 10);
-    }
+    comparison.finish(2048 * 2 * 5);
 }
 
 /// Each bit above 15 alone and with all below, in a control word to save and in a saved one.
@@ -185,127 +190,38 @@ fn control_words_with_high_bits() {
     let mut random = random();
     for bit in 16..32 {
         for control in [1 << bit, 1 << bit | 0xFFFF, u32::MAX << bit] {
-            for direction in Direction::BOTH {
-                let mut transfer = good(&mut random, direction);
-                match direction {
-                    Direction::Save => transfer.machine.control = control,
-                    Direction::Load => transfer.bytes[5..9].copy_from_slice(&control.to_be_bytes()),
+            for call in Call::ALL {
+                for held in VERSIONS {
+                    let mut state = random.sparse_machine();
+                    state.control = control;
+                    let case = done(&mut random, call, held, &state);
+                    let number = match call {
+                        Call::SavedSize(_) => done_number(call, &state),
+                        Call::MovedSize(_) => 0,
+                        _ => 2,
+                    };
+                    check_unchanged(&format!("control word {control:08X}"), &case, number);
                 }
-                check(&format!("control word {control:08X}"), &transfer, 2);
             }
         }
     }
 }
 
-/// Every control word of 16 bits is saved and loaded.
+/// Every control word of 16 bits is saved, moved and loaded.
 #[test]
 fn control_words_without_high_bits() {
     let mut machine = Machine::blank();
-    let mut target = vec![0; SAVED_SIZE];
+    machine.set_lane(3, 0, 0x3C00);
+    let mut packed = vec![0; 277];
+    let mut whole = vec![0; WHOLE_SIZE];
     for control in 0..=0xFFFF {
         machine.control = control;
-        assert_eq!(library::save(&mut machine, &mut target), 0);
-        machine.control = !control;
-        assert_eq!(library::load(&mut target, &mut machine), 0);
-        assert_eq!(machine.control, control);
-    }
-}
-
-/// Something that calls for a refusal.
-struct Condition {
-    name: &'static str,
-    number: u32,
-    spoil: fn(&mut Transfer),
-}
-
-const fn spoiled(name: &'static str, number: u32, spoil: fn(&mut Transfer)) -> Condition {
-    Condition {
-        name,
-        number,
-        spoil,
-    }
-}
-
-/// The conditions of R9.4, in its order.
-const OF_A_SAVE: [Condition; 3] = [
-    spoiled("vector file", 1, |save| save.machine.vectors.push(0)),
-    spoiled("target", 1, |save| save.bytes.truncate(2256)),
-    spoiled("control word", 2, |save| save.machine.control |= 1 << 16),
-];
-
-/// The conditions of R9.5, in its order.
-const OF_A_LOAD: [Condition; 5] = [
-    spoiled("vector file", 1, |load| load.machine.vectors.truncate(2047)),
-    spoiled("total size", 10, |load| load.bytes.push(0)),
-    spoiled("length field", 10, |load| load.bytes[3] ^= 4),
-    spoiled("version", 10, |load| load.bytes[4] = 2),
-    spoiled("control word", 2, |load| load.bytes[5] = 0x80),
-];
-
-fn conditions(direction: Direction) -> &'static [Condition] {
-    match direction {
-        Direction::Save => &OF_A_SAVE,
-        Direction::Load => &OF_A_LOAD,
-    }
-}
-
-/// The answer is that number, and everything is left as it was.
-fn check(names: &str, before: &Transfer, number: u32) {
-    let refused = TransferOutcome {
-        number,
-        after: before.clone(),
-    };
-    for outcome in [library::transfer_outcome(before), second::transfer(before)] {
-        let agrees = outcome == refused;
-        assert!(agrees, "{names}: {}", failure(before, &outcome, &refused));
-    }
-}
-
-/// Each refusal alone, and of any several at once the first: neighbours are among them.
-#[test]
-fn the_first_of_any_refusals_is_answered() {
-    let mut random = random();
-    for direction in Direction::BOTH {
-        let all = conditions(direction);
-        for chosen in 1..1_u32 << all.len() {
-            let is_chosen = |place: &usize| chosen >> place & 1 == 1;
-            let places: Vec<usize> = (0..all.len()).filter(is_chosen).collect();
-            let mut transfer = good(&mut random, direction);
-            for &place in &places {
-                (all[place].spoil)(&mut transfer);
-            }
-            let names: Vec<&str> = places.iter().map(|&place| all[place].name).collect();
-            check(&names.join(", "), &transfer, all[places[0]].number);
+        assert_eq!(library::save_version(2, &mut machine, &mut packed), 0);
+        assert_eq!(library::move_saved(1, &mut packed, &mut whole), 0);
+        for saved in [&mut packed, &mut whole] {
+            machine.control = !control;
+            assert_eq!(library::load(saved, &mut machine), 0);
+            assert_eq!(machine.control, control);
         }
-    }
-}
-
-/// R9.7: save, then load, whatever stood where the state goes.
-#[test]
-fn what_was_saved_is_loaded() {
-    let mut random = random();
-    for _ in 0..states() {
-        let saved = random.machine();
-        let (mut lent, mut target) = (saved.clone(), vec![0xA5; SAVED_SIZE]);
-        assert_eq!(library::save(&mut lent, &mut target), 0);
-        let mut loaded = random.machine();
-        assert_eq!(library::load(&mut target, &mut loaded), 0);
-        assert_eq!(loaded, saved);
-    }
-}
-
-/// R9.7: load, then save.
-#[test]
-fn what_was_loaded_is_saved() {
-    let mut random = random();
-    for _ in 0..states() {
-        let mut bytes = random.bytes(SAVED_SIZE);
-        bytes[..7].copy_from_slice(&[0, 0, 0x08, 0xCD, 1, 0, 0]);
-        let mut machine = Machine::blank();
-        assert_eq!(library::load(&mut bytes.clone(), &mut machine), 0);
-        assert_eq!(machine.vectors.len(), VECTORS_SIZE);
-        let mut target = vec![0xA5; SAVED_SIZE];
-        assert_eq!(library::save(&mut machine, &mut target), 0);
-        assert_eq!(target, bytes);
     }
 }

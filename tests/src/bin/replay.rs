@@ -1,4 +1,4 @@
-//! Runs one printed line again, of the arithmetic, of a step, of a save or of a load:
+//! Runs one printed line again, of the arithmetic, of a step, of a save, a load or a move:
 //! `cargo run --release --bin replay -- add m1 u0 3C00 BC00`
 //! `cargo run --release --bin replay -- step code=62F5744858C2 z1=3C00`
 //! A step is also shown as this machine's processor does it, where that can be.
@@ -8,7 +8,7 @@ use ridgecrook_tests::compare::Compared;
 use ridgecrook_tests::library;
 use ridgecrook_tests::machine::Step;
 use ridgecrook_tests::processor::{has_extended_prefix, Processor};
-use ridgecrook_tests::transfer::Transfer;
+use ridgecrook_tests::transfer::{Call, Transfer};
 use ridgecrook_tests::witness::runnable;
 use std::process::exit;
 use std::str::FromStr;
@@ -22,7 +22,9 @@ fn main() {
             println!("processor       {}", by_processor(&step));
             agrees
         }
-        Some("save" | "load") => replay(&read::<Transfer>(&line), library::transfer_outcome),
+        Some(word) if word.parse::<Call>().is_ok() => {
+            replay(&read::<Transfer>(&line), library::transfer_outcome)
+        }
         _ => replay(&read::<Case>(&line), library::answer),
     };
     if !agrees {

@@ -1,6 +1,6 @@
-//! What the command prints (R10.1 to R10.5).
+//! What the command prints (R9.13, R10.1 to R10.5).
 
-use super::saved::{load, SAVED_SIZE};
+use super::saved::{load, take};
 use super::step;
 use crate::machine::{Machine, Step, VECTORS_SIZE};
 use std::fmt::Write;
@@ -19,7 +19,7 @@ pub fn output(input: &[u8]) -> String {
 
 /// R10.1: the state, the code and the memory, where none of them is missing, too long or wrong.
 fn parts(input: &[u8]) -> Option<(Machine, &[u8], &[u8])> {
-    let (saved, rest) = input.split_at_checked(SAVED_SIZE)?;
+    let (saved, rest) = input.split_at_checked(saved_size(input)?)?;
     let machine = load(saved, VECTORS_SIZE).ok()?;
     let (length, rest) = rest.split_at_checked(2)?;
     let length = 256 * usize::from(length[0]) + usize::from(length[1]);
@@ -31,6 +31,12 @@ fn parts(input: &[u8]) -> Option<(Machine, &[u8], &[u8])> {
         return None;
     }
     Some((machine, code, memory))
+}
+
+/// R9.13: how many bytes the saved form in front has, by its own first field.
+pub fn saved_size(input: &[u8]) -> Option<usize> {
+    let following = take(&mut &input[..], 4)?;
+    usize::try_from(4 + following).ok()
 }
 
 /// R10.3, R10.4, R10.5: a line for each step, and the last.
