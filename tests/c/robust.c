@@ -346,12 +346,22 @@ static int save_is_right(const lent *all, copy *kept, room *target, counts *seen
            room_stays(target, *number) && (expected != RIDGECROOK_DONE || is_form(target, &right));
 }
 
-/* Changes a bit, near the beginning or in the word of the registers or anywhere. */
+/* Spoils a form: its last 64 bytes, or a bit near its beginning, in its word, or anywhere. */
 static void spoil(const room *r) {
-    size_t place = bits() % 2 == 0   ? below(12)
-                   : bits() % 2 == 0 ? FILE_AT + below(4)
-                                     : below(r->length);
-    r->at[place] ^= (uint8_t)(1 << below(8));
+    size_t places[] = {below(12), below(12), FILE_AT + below(4), below(r->length)};
+    if (bits() % 4 == 0) {
+        memset(r->at + r->length - RIDGECROOK_REGISTER_SIZE, 0, RIDGECROOK_REGISTER_SIZE);
+    } else {
+        r->at[places[below(4)]] ^= (uint8_t)(1 << below(8));
+    }
+}
+
+/* Makes random bytes begin like a form. */
+static void pretend(const room *r) {
+    if (r->length > 4) {
+        put(r->at, r->length - 4, 4);
+        r->at[4] = (uint8_t)any_version();
+    }
 }
 
 /* A load of what stands in the room over another state: what was saved, spoilt or not, or not. */
@@ -373,7 +383,7 @@ static int load_is_right(const lent *all, copy *kept, room *saved, counts *seen,
         return all_stays(kept, all);
     }
     form again = form_of_lent(saved->at[4], all);
-    return is_form(saved, &again);
+    return is_form(saved, &again) && *all->control <= 0xFFFF;
 }
 
 /* What a move is to answer where a load of its source answered so (R9.10). */
@@ -410,6 +420,8 @@ static int transfer_is_right(const lent *all, copy *kept, room rooms[2], counts 
     int spoilt = saved == RIDGECROOK_DONE && bits() % 2 == 0;
     if (spoilt) {
         spoil(&rooms[0]);
+    } else if (saved != RIDGECROOK_DONE) {
+        pretend(&rooms[0]);
     }
     right &= load_is_right(all, kept, &rooms[0], seen, &loaded);
     if (saved == RIDGECROOK_DONE && !spoilt) {
