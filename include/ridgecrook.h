@@ -265,7 +265,7 @@ ridgecrook_answer ridgecrook_step(uint8_t *vectors, size_t vectors_length, uint6
 
 /*
  * The saved form of a state (R9.1, R9.2): bytes to keep or to send, in one of two versions. Version
- * 2 leaves out the vector registers that are all zero. Numbers have their highest byte first.
+ * 2 leaves out the vector registers that are all zero. Every number has its highest byte first.
  *
  *   at    bytes
  *      0      4  the number of bytes that follow these four
@@ -282,29 +282,28 @@ ridgecrook_answer ridgecrook_step(uint8_t *vectors, size_t vectors_length, uint6
  * A register is present exactly if one of its bytes is not 0; so negative zeros make it present. A
  * state has one saved form in each version.
  *
- * In all (R9.9) that is RIDGECROOK_SAVED_SIZE bytes in version 1. In version 2 it is 213 bytes and
- * 64 more for each register that is present, from 213 to RIDGECROOK_SAVED_LARGEST: mostly fewer,
- * but 4 more than in version 1 where all 32 are present. Where other bytes follow a saved form, its
- * first field, of which the four bytes themselves are no part, says where it ends (R9.13).
+ * Its size (R9.9) is RIDGECROOK_SAVED_SIZE in version 1. In version 2 it is 213 bytes and 64 more
+ * for each register that is present: less than in version 1, or 4 bytes more if all 32 are. Where
+ * other bytes stand behind a saved form, it ends at 4 plus the number in its first field (R9.13).
  */
-#define RIDGECROOK_SAVED_SIZE 2257    /* the bytes of version 1 */
-#define RIDGECROOK_SAVED_LARGEST 2261 /* the most bytes of any version: room for every saved form */
+#define RIDGECROOK_SAVED_SIZE 2257    /* the size of version 1 */
+#define RIDGECROOK_SAVED_LARGEST 2261 /* the largest size: a buffer for any saved form */
 
 /*
- * Saving, loading and moving, which is rewriting a saved form in the other version. A size is asked
- * for first, since a target must have exactly the bytes that are needed. To save in version 2, and
- * to move that to version 1:
+ * Saving, loading, and moving a saved form to another version. A target is lent at the exact size
+ * that is needed, so that size is asked for first; the buffer itself may be larger. Here a state is
+ * saved in version 2, and what was saved is moved to version 1:
  *
  *     uint8_t bytes[RIDGECROOK_SAVED_LARGEST], moved[RIDGECROOK_SAVED_LARGEST];
- *     size_t size = ridgecrook_saved_size(2, vectors, sizeof vectors);
- *     uint32_t number = ridgecrook_save_version(2, vectors, sizeof vectors, masks, general,
- *                                               control, pointer, bytes, size);
+ *     size_t size = ridgecrook_saved_size(2, vectors, RIDGECROOK_VECTORS_SIZE);
+ *     uint32_t number = ridgecrook_save_version(2, vectors, RIDGECROOK_VECTORS_SIZE, masks,
+ *                                               general, control, pointer, bytes, size);
  *     if (number == RIDGECROOK_DONE) {
  *         size_t moved_size = ridgecrook_moved_size(1, bytes, size);
  *         number = ridgecrook_move(1, bytes, size, moved, moved_size);
  *     }
  *
- * Where a size is 0, the save or the move that is given it says by its answer what was wrong.
+ * A size of 0 need not be looked at: the save or the move that is given it answers what is wrong.
  *
  * Common to the six functions that follow:
  *
@@ -315,30 +314,30 @@ ridgecrook_answer ridgecrook_step(uint8_t *vectors, size_t vectors_length, uint6
  *   masks, general           The registers k0 to k7, and the general registers.
  *   control, pointer         The control word and the pointer. A control word above 0xFFFF is
  *                            refused, a saved one too.
- *   target, target_length    Where a saved form is written. A length other than the bytes that are
- *                            needed is refused, a greater one too.
- *   saved, saved_length      A saved form of either version and nothing behind it; only read. Its
- *   source, source_length    version is told by its byte 4.
+ *   target, target_length    Where a saved form is written. A length other than the size needed is
+ *                            refused, a greater one too.
+ *   saved, saved_length,     A saved form of either version, which its byte 4 tells, and nothing
+ *   source, source_length    behind it.
  *
- * Not a saved form (R9.5) are bytes
- *   - whose byte 4 is neither 1 nor 2, or that are too few to have one;
- *   - that are not as many as the version, and in version 2 the word at 209, asks for;
- *   - whose first field is not their number less 4;
- *   - in which, in version 2, a register is marked as present and is all zero.
+ * Bytes are not a saved form (R9.5) if one of these holds:
  *
- * A refusal, which is every answer but RIDGECROOK_DONE, leaves all that was lent as it was (R9.6).
- * What is only read is never changed.
+ *   - byte 4 is neither 1 nor 2, or there is none
+ *   - they are not as many as the version, and in version 2 the word at 209, asks for
+ *   - the number in the first field is not that of the bytes behind it
+ *   - in version 2, a register that is marked as present is all zero
  *
- * The pointers (R8.4). What is not const is written: what such a pointer points to, at its whole
- * length, may overlap nothing else that is lent to the call. What is const is only read, and may
- * overlap what else is. `vectors`, `target`, `saved` and `source` may be null where the length
- * beside them is 0, with which no call is done; no other pointer may be null. `masks` points to
- * RIDGECROOK_MASKS numbers and `general` to RIDGECROOK_GENERAL. What points to uint32_t or uint64_t
- * is aligned as these are; bytes need no alignment.
+ * Every answer but RIDGECROOK_DONE is a refusal, and leaves all that was lent as it was (R9.6).
+ *
+ * The pointers (R8.4). Pointers to const are only read from, and what they point to may overlap.
+ * The others are written to: what one of them points to, at its whole length, may overlap nothing
+ * else that is lent to the call. `vectors`, `target`, `saved` and `source` may be null where the
+ * length beside them is 0 (which is refused, or gives size 0); no other pointer may be null.
+ * `masks` points to RIDGECROOK_MASKS numbers and `general` to RIDGECROOK_GENERAL. What points to
+ * uint32_t or uint64_t is aligned as these are; bytes need no alignment.
  */
 
-/* How many bytes a save of this vector file in that version needs (R9.12); 0 where there is no such
-   version, or vectors_length is not RIDGECROOK_VECTORS_SIZE. */
+/* The size that a save of this vector file in that version needs (R9.12). It is 0 where there is no
+   such version, or vectors_length is not RIDGECROOK_VECTORS_SIZE. */
 size_t ridgecrook_saved_size(uint32_t version, const uint8_t *vectors, size_t vectors_length);
 
 /*
@@ -355,16 +354,16 @@ uint32_t ridgecrook_save_version(uint32_t version, const uint8_t *vectors, size_
                                  uint32_t control, uint64_t pointer, uint8_t *target,
                                  size_t target_length);
 
-/* The same with version 1, so that target_length is to be RIDGECROOK_SAVED_SIZE. */
+/* The same in version 1, where the size needed is RIDGECROOK_SAVED_SIZE. */
 uint32_t ridgecrook_save(const uint8_t *vectors, size_t vectors_length, const uint64_t masks[8],
                          const uint64_t general[16], uint32_t control, uint64_t pointer,
                          uint8_t *target, size_t target_length);
 
 /*
- * Reads a state from its saved form (R9.3, R9.5); a register that is not present becomes zero. What
- * is written to before, *control too, is not looked at. A state that is saved and loaded comes back
- * unchanged, and so do bytes that are loaded and saved in the same version (R9.7). The answer is
- * the first of these that applies:
+ * Reads a state from its saved form (R9.3); a register that is not present becomes zero. What the
+ * state was before the call, *control too, is not looked at. A state that is saved and loaded comes
+ * back unchanged, and so do bytes that are loaded and saved in the same version (R9.7). The answer
+ * is the first of these that applies (R9.5):
  *
  *   RIDGECROOK_BAD_SIZE     vectors_length is not RIDGECROOK_VECTORS_SIZE
  *   RIDGECROOK_BAD_SAVED    `saved` is not a saved form
@@ -375,15 +374,15 @@ uint32_t ridgecrook_load(const uint8_t *saved, size_t saved_length, uint8_t *vec
                          size_t vectors_length, uint64_t masks[8], uint64_t general[16],
                          uint32_t *control, uint64_t *pointer);
 
-/* How many bytes a move of this source to that version needs (R9.12); 0 where there is no such
+/* The size that a move of this source to that version needs (R9.12). It is 0 where there is no such
    version, the source is not a saved form, or its control word is above 0xFFFF. */
 size_t ridgecrook_moved_size(uint32_t version, const uint8_t *source, size_t source_length);
 
 /*
- * Writes the saved form, in that version, of the state that the source holds: what a load of the
- * source, and a save of the state, would write (R9.10, R9.11). To the source's own version it is a
- * copy, and moved back to that version the bytes are the source's again. The answer is the first of
- * these that applies:
+ * Writes the state that a saved form holds in that version: the bytes are those that a load and a
+ * save would give (R9.11). To the source's own version that is a copy; to the other version and
+ * back again, the bytes are those of the source. The answer is the first of these that applies
+ * (R9.10):
  *
  *   RIDGECROOK_BAD_SAVED    there is no such version
  *   RIDGECROOK_BAD_SAVED    `source` is not a saved form

@@ -292,6 +292,45 @@ static void check_huge(void) {
     munmap(huge, above + PAGE);
 }
 
+/* Bytes need no alignment. */
+static void check_alignment(void) {
+    uint8_t file[RIDGECROOK_VECTORS_SIZE + 64], bytes[ROOM + 64];
+    machine m = numbered(SOME), other = numbered(ALL);
+    for (size_t way = 0; way < WAYS_COUNT; way++) {
+        form right = form_of(WAYS[way].version, &m);
+        int done = 1;
+        for (size_t i = 0; i < 64; i++) {
+            uint8_t *vectors = file + i, *target = bytes + 63 - i;
+            memcpy(vectors, m.vectors, sizeof m.vectors);
+            done &= WAYS[way].save(vectors, sizeof m.vectors, m.masks, m.general, m.control,
+                                   m.pointer, target, right.size) == RIDGECROOK_DONE &&
+                    memcmp(target, right.bytes, right.size) == 0;
+            memset(vectors, UNTOUCHED, sizeof m.vectors);
+            done &= ridgecrook_load(target, right.size, vectors, sizeof m.vectors, other.masks,
+                                    other.general, &other.control,
+                                    &other.pointer) == RIDGECROOK_DONE &&
+                    memcmp(vectors, m.vectors, sizeof m.vectors) == 0;
+        }
+        check(done, "a save and a load at every alignment");
+    }
+}
+
+/* What is only read may overlap: registers of both kinds out of the vector file. */
+static void check_overlap(void) {
+    machine m = numbered(SOME);
+    uint64_t words[RIDGECROOK_VECTORS_SIZE / sizeof(uint64_t)];
+    memcpy(words, m.vectors, sizeof words);
+    memcpy(m.masks, words + 70, sizeof m.masks);
+    memcpy(m.general, words + 66, sizeof m.general);
+    for (size_t way = 0; way < WAYS_COUNT; way++) {
+        form right = form_of(WAYS[way].version, &m), made = {{0}, right.size};
+        check(WAYS[way].save((const uint8_t *)words, sizeof words, words + 70, words + 66,
+                             m.control, m.pointer, made.bytes, made.size) == RIDGECROOK_DONE &&
+                  same_form(&made, &right),
+              "a save of registers that overlap");
+    }
+}
+
 /* What is lent, each at one end of a page beyond which nothing may be touched. */
 typedef struct {
     uint8_t *bytes, *vectors;
@@ -423,6 +462,8 @@ int main(void) {
     check_refused_words();
     check_null();
     check_huge();
+    check_alignment();
+    check_overlap();
     check_ends();
     return finish();
 }
