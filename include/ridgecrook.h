@@ -29,10 +29,11 @@ extern "C" {
 
 /*
  * Answers (R4.1). The library has one table of answer numbers. The arithmetic gives only 0 and 9, a
- * step 0 to 5, 7 and 8, a save 0 to 2, a load 0, 1, 2 and 10.
+ * step 0 to 5, 7 and 8, a save 0 to 2 and, where it is told a version, 10, a load or a move 0 to 2
+ * and 10.
  *
  *    0  done
- *    1  the vector file has not 2,048 bytes, or the target of a save has not 2,257
+ *    1  the vector file has not 2,048 bytes, or the target of a save or a move not those needed
  *    2  the control word is above 0xFFFF
  *    3  the code ends too early
  *    4  the code begins with no instruction that is carried out
@@ -41,7 +42,7 @@ extern "C" {
  *    7  a byte that is needed lies outside memory
  *    8  unmasked numeric exception
  *    9  rounding mode above 3: the half is 0x0000 and the flags are 0
- *   10  not a saved form
+ *   10  not a saved form, or no version of it
  */
 #define RIDGECROOK_DONE 0
 #define RIDGECROOK_BAD_SIZE 1
@@ -263,79 +264,134 @@ ridgecrook_answer ridgecrook_step(uint8_t *vectors, size_t vectors_length, uint6
                                   size_t memory_length);
 
 /*
- * The saved form of a state, RIDGECROOK_SAVED_SIZE bytes (R9.1, R9.2). Its numbers have their
- * highest byte first; the vector file stands in it as a step takes it.
+ * The saved form of a state (R9.1, R9.2): bytes to keep or to send, in one of two versions. Version
+ * 2 leaves out the vector registers that are all zero. Every number has its highest byte first.
  *
  *   at    bytes
- *      0      4  the number of bytes that follow these four: 2,253
- *      4      1  the version: 1
+ *      0      4  the number of bytes that follow these four
+ *      4      1  the version: 1 or 2
  *      5      4  the control word
  *      9      8  the pointer
  *     17    128  the general registers, 8 bytes each, in rising order
  *    145     64  the masks k0 to k7, 8 bytes each, in rising order
- *    209  2,048  the vector file
+ *    209         version 1: the vector file as a step takes it, 2,048 bytes
+ *                version 2: the vector file packed (R9.8), in two parts:
+ *    209      4    a word whose bit i (bit 0 is the lowest) is 1 where register i is present
+ *    213           the present registers, RIDGECROOK_REGISTER_SIZE bytes each, in rising order
+ *
+ * A register is present exactly if one of its bytes is not 0; so negative zeros make it present. A
+ * state has one saved form in each version.
+ *
+ * Its size (R9.9) is RIDGECROOK_SAVED_SIZE in version 1. In version 2 it is 213 bytes and 64 more
+ * for each register that is present: less than in version 1, or 4 bytes more if all 32 are. Where
+ * other bytes stand behind a saved form, it ends at 4 plus the number in its first field (R9.13).
  */
-#define RIDGECROOK_SAVED_SIZE 2257
+#define RIDGECROOK_SAVED_SIZE 2257    /* the size of version 1 */
+#define RIDGECROOK_SAVED_LARGEST 2261 /* the largest size: a buffer for any saved form */
 
 /*
- * Writes the saved form of a state (R9.4).
+ * Saving, loading, and moving a saved form to another version. A target is lent at the exact size
+ * that is needed, so that size is asked for first; the buffer itself may be larger. Here a state is
+ * saved in version 2, and what was saved is moved to version 1:
  *
- *   vectors, vectors_length  The vector file; only read. A length other than
+ *     uint8_t bytes[RIDGECROOK_SAVED_LARGEST], moved[RIDGECROOK_SAVED_LARGEST];
+ *     size_t size = ridgecrook_saved_size(2, vectors, RIDGECROOK_VECTORS_SIZE);
+ *     uint32_t number = ridgecrook_save_version(2, vectors, RIDGECROOK_VECTORS_SIZE, masks,
+ *                                               general, control, pointer, bytes, size);
+ *     if (number == RIDGECROOK_DONE) {
+ *         size_t moved_size = ridgecrook_moved_size(1, bytes, size);
+ *         number = ridgecrook_move(1, bytes, size, moved, moved_size);
+ *     }
+ *
+ * A size of 0 need not be looked at: the save or the move that is given it answers what is wrong.
+ *
+ * Common to the six functions that follow:
+ *
+ *   version                  1 or 2. There is no other; it is 32 bits wide, so that no int or
+ *                            unsigned that a caller passes is cut to a valid one.
+ *   vectors, vectors_length  The vector file, as a step takes it. A length other than
  *                            RIDGECROOK_VECTORS_SIZE is refused.
- *   masks, general           The registers; only read.
+ *   masks, general           The registers k0 to k7, and the general registers.
  *   control, pointer         The control word and the pointer. A control word above 0xFFFF is
- *                            refused.
- *   target, target_length    Where the saved form is written. A length other than
- *                            RIDGECROOK_SAVED_SIZE is refused, a greater one too.
+ *                            refused, a saved one too.
+ *   target, target_length    Where a saved form is written. A length other than the size needed is
+ *                            refused, a greater one too.
+ *   saved, saved_length,     A saved form of either version, which its byte 4 tells, and nothing
+ *   source, source_length    behind it.
  *
- * The answer is the first of these that applies:
+ * Bytes are not a saved form (R9.5) if one of these holds:
  *
+ *   - byte 4 is neither 1 nor 2, or there is none
+ *   - they are not as many as the version, and in version 2 the word at 209, asks for
+ *   - the number in the first field is not that of the bytes behind it
+ *   - in version 2, a register that is marked as present is all zero
+ *
+ * Every answer but RIDGECROOK_DONE is a refusal, and leaves all that was lent as it was (R9.6).
+ *
+ * The pointers (R8.4). Pointers to const are only read from, and what they point to may overlap.
+ * The others are written to: what one of them points to, at its whole length, may overlap nothing
+ * else that is lent to the call. `vectors`, `target`, `saved` and `source` may be null where the
+ * length beside them is 0 (which is refused, or gives size 0); no other pointer may be null.
+ * `masks` points to RIDGECROOK_MASKS numbers and `general` to RIDGECROOK_GENERAL. What points to
+ * uint32_t or uint64_t is aligned as these are; bytes need no alignment.
+ */
+
+/* The size that a save of this vector file in that version needs (R9.12). It is 0 where there is no
+   such version, or vectors_length is not RIDGECROOK_VECTORS_SIZE. */
+size_t ridgecrook_saved_size(uint32_t version, const uint8_t *vectors, size_t vectors_length);
+
+/*
+ * Writes the saved form of a state (R9.4). The answer is the first of these that applies:
+ *
+ *   RIDGECROOK_BAD_SAVED    there is no such version
  *   RIDGECROOK_BAD_SIZE     vectors_length is not RIDGECROOK_VECTORS_SIZE
- *   RIDGECROOK_BAD_SIZE     target_length is not RIDGECROOK_SAVED_SIZE
+ *   RIDGECROOK_BAD_SIZE     target_length is not what ridgecrook_saved_size says
  *   RIDGECROOK_BAD_CONTROL  the control word is above 0xFFFF
  *   RIDGECROOK_DONE         every byte of the target is written
- *
- * A refusal leaves the target as it was (R9.6). What is only read is never changed.
- *
- * The pointers (R8.4). `target`, at its whole length, may overlap nothing else that is lent to the
- * call; `vectors`, `masks` and `general` are only read and may overlap one another. No pointer may
- * be null. `masks` points to RIDGECROOK_MASKS numbers and `general` to RIDGECROOK_GENERAL, aligned
- * as uint64_t is; bytes need no alignment.
  */
+uint32_t ridgecrook_save_version(uint32_t version, const uint8_t *vectors, size_t vectors_length,
+                                 const uint64_t masks[8], const uint64_t general[16],
+                                 uint32_t control, uint64_t pointer, uint8_t *target,
+                                 size_t target_length);
+
+/* The same in version 1, where the size needed is RIDGECROOK_SAVED_SIZE. */
 uint32_t ridgecrook_save(const uint8_t *vectors, size_t vectors_length, const uint64_t masks[8],
                          const uint64_t general[16], uint32_t control, uint64_t pointer,
                          uint8_t *target, size_t target_length);
 
 /*
- * Reads a state from its saved form (R9.5). A state that is saved and loaded comes back unchanged,
- * and so do bytes that are loaded and saved (R9.7).
- *
- *   saved, saved_length      The saved form and nothing behind it; only read.
- *   vectors, vectors_length  Where the vector file goes. A length other than
- *                            RIDGECROOK_VECTORS_SIZE is refused.
- *   masks, general           Where the registers go.
- *   control, pointer         Where the control word and the pointer go. What they hold before the
- *                            call is not looked at.
- *
- * The answer is the first of these that applies:
+ * Reads a state from its saved form (R9.3); a register that is not present becomes zero. What the
+ * state was before the call, *control too, is not looked at. A state that is saved and loaded comes
+ * back unchanged, and so do bytes that are loaded and saved in the same version (R9.7). The answer
+ * is the first of these that applies (R9.5):
  *
  *   RIDGECROOK_BAD_SIZE     vectors_length is not RIDGECROOK_VECTORS_SIZE
- *   RIDGECROOK_BAD_SAVED    saved_length is not RIDGECROOK_SAVED_SIZE, the length field is not
- *                           2,253, or the version is not 1
+ *   RIDGECROOK_BAD_SAVED    `saved` is not a saved form
  *   RIDGECROOK_BAD_CONTROL  the saved control word is above 0xFFFF
  *   RIDGECROOK_DONE         vectors, masks, general, *control and *pointer are all written
- *
- * A refusal leaves all of these as they were (R9.6).
- *
- * The pointers (R8.4). `vectors`, `masks`, `general`, `control` and `pointer` are written: what one
- * of them points to, at its whole length, may overlap nothing else that is lent to the call.
- * `saved` may be null where saved_length is 0, which is refused; no other pointer may be null.
- * `masks` points to RIDGECROOK_MASKS numbers and `general` to RIDGECROOK_GENERAL. What points to
- * uint32_t or uint64_t is aligned as these are; bytes need no alignment.
  */
 uint32_t ridgecrook_load(const uint8_t *saved, size_t saved_length, uint8_t *vectors,
                          size_t vectors_length, uint64_t masks[8], uint64_t general[16],
                          uint32_t *control, uint64_t *pointer);
+
+/* The size that a move of this source to that version needs (R9.12). It is 0 where there is no such
+   version, the source is not a saved form, or its control word is above 0xFFFF. */
+size_t ridgecrook_moved_size(uint32_t version, const uint8_t *source, size_t source_length);
+
+/*
+ * Writes the state that a saved form holds in that version: the bytes are those that a load and a
+ * save would give (R9.11). To the source's own version that is a copy; to the other version and
+ * back again, the bytes are those of the source. The answer is the first of these that applies
+ * (R9.10):
+ *
+ *   RIDGECROOK_BAD_SAVED    there is no such version
+ *   RIDGECROOK_BAD_SAVED    `source` is not a saved form
+ *   RIDGECROOK_BAD_CONTROL  the source's control word is above 0xFFFF
+ *   RIDGECROOK_BAD_SIZE     target_length is not what ridgecrook_moved_size says
+ *   RIDGECROOK_DONE         every byte of the target is written
+ */
+uint32_t ridgecrook_move(uint32_t version, const uint8_t *source, size_t source_length,
+                         uint8_t *target, size_t target_length);
 
 #ifdef __cplusplus
 }

@@ -6,6 +6,8 @@
 
 #include "check.h"
 
+#include <string.h>
+
 static const uint8_t ADD[] = {0x62, 0xF5, 0x74, 0x48, 0x58, 0xC2};        /* vaddph zmm0, zmm1, zmm2 */
 static const uint8_t ADD_MEMORY[] = {0x62, 0xF5, 0x74, 0x48, 0x58, 0x00}; /* vaddph zmm0, zmm1, [rax] */
 static const uint8_t NO_MAP[] = {0x62, 0xFD, 0x74, 0x48, 0x58, 0xC2};     /* byte 1 bit 3 set */
@@ -18,6 +20,8 @@ static uint64_t general[RIDGECROOK_GENERAL];
 static uint32_t control = RIDGECROOK_CONTROL_RESET;
 static uint64_t pointer;
 static uint8_t saved[RIDGECROOK_SAVED_SIZE];
+static uint8_t packed[RIDGECROOK_SAVED_LARGEST];
+static uint8_t moved[RIDGECROOK_SAVED_LARGEST];
 
 static void set_lane(size_t place, uint16_t half) {
     vectors[place] = (uint8_t)(half & 0xFF);
@@ -30,6 +34,14 @@ static uint32_t step(size_t vectors_length, const uint8_t *code, size_t code_len
 
 static uint32_t save(size_t target_length) {
     return ridgecrook_save(vectors, sizeof vectors, masks, general, control, pointer, saved, target_length);
+}
+
+static size_t packed_size(void) {
+    return ridgecrook_saved_size(2, vectors, sizeof vectors);
+}
+
+static uint32_t save_version(uint32_t version, size_t target_length) {
+    return ridgecrook_save_version(version, vectors, sizeof vectors, masks, general, control, pointer, packed, target_length);
 }
 
 static uint32_t load(const uint8_t *form, size_t length) {
@@ -90,11 +102,44 @@ static void steps(void) {
 }
 
 static void saving(void) {
+    check(ridgecrook_saved_size(1, vectors, sizeof vectors) == RIDGECROOK_SAVED_SIZE, "the size of version 1");
     check(save(sizeof saved) == RIDGECROOK_DONE && saved[2] == 0x08 && saved[3] == 0xCD, "a save, and its length");
-    check(saved[7] == 0x1F && saved[8] == 0x80, "the control word after reset, saved");
+    check(saved[4] == 1 && saved[7] == 0x1F && saved[8] == 0x80, "its version, and the control word after reset, saved");
     check(save(RIDGECROOK_SAVED_SIZE - 1) == RIDGECROOK_BAD_SIZE, "a target that is too short");
     check(load(saved, sizeof saved) == RIDGECROOK_DONE, "a load");
     check(load(NULL, 0) == RIDGECROOK_BAD_SAVED, "no saved form");
+    control = 0x10000;
+    check(save(sizeof saved) == RIDGECROOK_BAD_CONTROL, "a control word with bit 16, saved");
+    control = RIDGECROOK_CONTROL_RESET;
+}
+
+static void saving_packed(void) {
+    size_t size = packed_size();
+    check(save_version(2, size) == RIDGECROOK_DONE && packed[3] == ((size - 4) & 0xFF) && packed[4] == 2, "version 2, saved");
+    check(save_version(2, size + 1) == RIDGECROOK_BAD_SIZE, "a target that is too long");
+    check(save_version(3, size) == RIDGECROOK_BAD_SAVED, "no version 3");
+    set_lane(RIDGECROOK_REGISTER_SIZE, 0x4000);
+    check(load(packed, size) == RIDGECROOK_DONE && vectors[RIDGECROOK_REGISTER_SIZE] == 1, "version 2, loaded");
+    for (size_t place = 0; place < sizeof vectors; place += RIDGECROOK_REGISTER_SIZE) {
+        set_lane(place, 0x3C00);
+    }
+    check(packed_size() == RIDGECROOK_SAVED_LARGEST, "no size is larger than with all registers");
+}
+
+static uint32_t move(uint32_t version, const uint8_t *source, size_t source_length, size_t target_length) {
+    return ridgecrook_move(version, source, source_length, moved, target_length);
+}
+
+/* What the two above have saved, moved from the one to the other. */
+static void moving(void) {
+    size_t size = ridgecrook_moved_size(2, saved, sizeof saved);
+    check(move(2, saved, sizeof saved, size) == RIDGECROOK_DONE && memcmp(moved, packed, size) == 0, "a move to version 2");
+    check(ridgecrook_moved_size(1, packed, size) == sizeof saved, "the size of the move back");
+    check(move(1, packed, size, sizeof saved) == RIDGECROOK_DONE && memcmp(moved, saved, sizeof saved) == 0, "the move back");
+    check(move(1, packed, size, size) == RIDGECROOK_BAD_SIZE, "a move to a target that is too short");
+    check(move(3, packed, size, size) == RIDGECROOK_BAD_SAVED, "a move to no version");
+    packed[5] = 1;
+    check(move(1, packed, size, sizeof saved) == RIDGECROOK_BAD_CONTROL, "a move of a control word with bit 24");
 }
 
 int main(void) {
@@ -106,5 +151,7 @@ int main(void) {
     flags();
     steps();
     saving();
+    saving_packed();
+    moving();
     return finish();
 }

@@ -50,4 +50,20 @@ static inline uint8_t *page_end(void) {
     return pages_end(1);
 }
 
+/* Where bytes of a size stand in a page with this end: at its beginning, or else at its end. */
+static inline uint8_t *in_page(uint8_t *end, size_t size, int at_beginning) {
+    return at_beginning ? end - PAGE : end - size;
+}
+
+/* Pages that are reserved and hold zeros, or null where there are not so many addresses. */
+static inline uint8_t *huge_pages(size_t size) {
+    uint8_t *all = mmap(NULL, size, PROT_READ | PROT_WRITE,
+                        MAP_PRIVATE | MAP_ANONYMOUS | MAP_NORESERVE, -1, 0);
+    if (all == MAP_FAILED) {
+        printf("skipped: no %zu bytes of addresses for the sizes above 2 to the 32\n", size);
+        return NULL;
+    }
+    return all;
+}
+
 #endif

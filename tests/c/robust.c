@@ -1,13 +1,14 @@
 /*
- * Steps, saves and loads on random bytes and states, with every lent buffer against the end or the
- * beginning of pages that may be touched (R8.4): one byte beyond, and the program stops. After each
- * call it is checked that the answer is one that the header names, that a refusal left all as it
- * was, and that a step wrote nowhere but to its destination, a vector or a mask register; what it
- * is to compute, other tests know.
+ * Steps, saves, loads and moves on random bytes and states, with every lent buffer against the end
+ * or the beginning of pages that may be touched (R8.4): one byte beyond, and the program stops.
+ * After each call it is checked that the answer is one that the header names, that a refusal left
+ * all as it was, and that a step wrote nowhere but to its destination, a vector or a mask register;
+ * what it is to compute, other tests know. Of the saved form, in both versions, the bytes are
+ * checked too, and that a save or a move wrote none beside its target.
  *
  *   robust [STEPS [SEED]]     1,000,000 steps if nothing is said
  */
-#include "machine.h" /* first, since it chooses what the system's headers declare */
+#include "form.h" /* first, since it chooses what the system's headers declare */
 
 #include "check.h"
 
@@ -57,10 +58,10 @@ static uint8_t *placed(pages in, size_t size) {
 
 /* All that a call is lent. */
 typedef struct {
-    uint8_t *vectors, *code, *memory, *saved;
+    uint8_t *vectors, *code, *memory;
     uint64_t *masks, *general, *pointer;
     uint32_t *control;
-    size_t vectors_length, code_length, memory_length, saved_length;
+    size_t vectors_length, code_length, memory_length;
 } lent;
 
 /* The size that is right, but for one call in 32. */
@@ -68,20 +69,18 @@ static size_t mostly(size_t right) {
     return bits() % 32 != 0 ? right : below(PAGE);
 }
 
-static lent place(const pages in[8]) {
+static lent place(const pages in[7]) {
     lent all;
     all.vectors_length = mostly(RIDGECROOK_VECTORS_SIZE);
-    all.saved_length = mostly(RIDGECROOK_SAVED_SIZE);
     all.code_length = bits() % 4 != 0 ? 12 : below(CODE_MOST + 1);
     all.memory_length = below(MEMORY_MOST + 1);
     all.vectors = placed(in[0], all.vectors_length);
     all.code = placed(in[1], all.code_length);
     all.memory = placed(in[2], all.memory_length);
-    all.saved = placed(in[3], all.saved_length);
-    all.masks = (uint64_t *)(void *)placed(in[4], 8 * sizeof(uint64_t));
-    all.general = (uint64_t *)(void *)placed(in[5], 16 * sizeof(uint64_t));
-    all.pointer = (uint64_t *)(void *)placed(in[6], sizeof(uint64_t));
-    all.control = (uint32_t *)(void *)placed(in[7], sizeof(uint32_t));
+    all.masks = (uint64_t *)(void *)placed(in[3], 8 * sizeof(uint64_t));
+    all.general = (uint64_t *)(void *)placed(in[4], 16 * sizeof(uint64_t));
+    all.pointer = (uint64_t *)(void *)placed(in[5], sizeof(uint64_t));
+    all.control = (uint32_t *)(void *)placed(in[6], sizeof(uint32_t));
     return all;
 }
 
@@ -213,8 +212,11 @@ static int destination_is_right(const copy *kept, const lent *all) {
     return is_comparison(all->code) ? mask_is_right(kept, all) : vector_is_right(kept, all);
 }
 
+enum { ANSWERS = RIDGECROOK_BAD_SAVED + 1 };
+
 typedef struct {
-    uint64_t answers[11], scalar, comparison; /* the last two were carried out */
+    uint64_t answers[ANSWERS], scalar, comparison; /* of steps; the last two were carried out */
+    uint64_t saves[ANSWERS], loads[ANSWERS], moves[ANSWERS];
 } counts;
 
 /* Whether a step answered and left what the header allows; counts it. */
@@ -242,37 +244,207 @@ static int step_is_right(const lent *all, copy *kept, counts *seen) {
     return answer.length == 0 && flags_added && all_stays(kept, all);
 }
 
-/* A save of the state, and a load of what stands in the target then, damaged or not. */
-static int transfer_is_right(const lent *all, copy *kept) {
-    keep(kept, all);
-    uint32_t saved = ridgecrook_save(all->vectors, all->vectors_length, all->masks, all->general,
-                                     *all->control, *all->pointer, all->saved, all->saved_length);
-    int right = saved <= RIDGECROOK_BAD_CONTROL && all_stays(kept, all);
-    if (saved == RIDGECROOK_DONE && bits() % 2 == 0) {
-        all->saved[below(12)] ^= (uint8_t)(1 << below(8));
-    } else if (saved == RIDGECROOK_DONE) {
-        fill_state(all); /* and what was saved is loaded over it */
-        uint32_t loaded = ridgecrook_load(all->saved, all->saved_length, all->vectors,
-                                          all->vectors_length, all->masks, all->general,
-                                          all->control, all->pointer);
-        return right && loaded == RIDGECROOK_DONE && all_stays(kept, all);
+/* Some bytes of a page that are lent, and the whole page as it was before. */
+typedef struct {
+    pages in;
+    uint8_t *at;
+    size_t length;
+    uint8_t kept[PAGE];
+} room;
+
+static void keep_room(room *r) {
+    memcpy(r->kept, r->in.end - PAGE, PAGE);
+}
+
+/* So many bytes mostly, and any number if that is 0, in a page of random bytes. */
+static void lend(room *r, size_t right) {
+    r->length = right != 0 ? mostly(right) : below(PAGE);
+    r->at = placed(r->in, r->length);
+    fill(r->in.end - PAGE, PAGE);
+    keep_room(r);
+}
+
+/* Whether the page is as it was: with 0 beside what is lent, since that is written then. */
+static int room_stays(const room *r, uint32_t number) {
+    const uint8_t *page = r->in.end - PAGE;
+    size_t before = (size_t)(r->at - page);
+    size_t behind = number == RIDGECROOK_DONE ? before + r->length : before;
+    return memcmp(page, r->kept, before) == 0 &&
+           memcmp(page + behind, r->kept + behind, PAGE - behind) == 0;
+}
+
+static uint32_t any_version(void) {
+    return bits() % 16 != 0 ? 1 + (uint32_t)(bits() % VERSIONS) : NO_VERSION[below(NO_VERSIONS)];
+}
+
+static int is_version(uint32_t number) {
+    return number == 1 || number == 2;
+}
+
+/* Makes about half of the registers zero, or none, or all; then often one byte is not. */
+static void thin(const lent *all) {
+    uint32_t word = (uint32_t)bits();
+    word = bits() % 8 == 0 ? 0 : bits() % 8 == 0 ? UINT32_MAX : word;
+    for (size_t i = 0; i < all->vectors_length; i++) {
+        all->vectors[i] &= (uint8_t)(0 - (word >> i / RIDGECROOK_REGISTER_SIZE % REGISTERS & 1));
     }
-    uint32_t loaded = ridgecrook_load(all->saved, all->saved_length, all->vectors,
-                                      all->vectors_length, all->masks, all->general, all->control,
-                                      all->pointer);
-    int known = loaded <= RIDGECROOK_BAD_CONTROL || loaded == RIDGECROOK_BAD_SAVED;
-    return right && known && (loaded == RIDGECROOK_DONE || all_stays(kept, all));
+    if (all->vectors_length != 0 && bits() % 2 == 0) {
+        all->vectors[below(all->vectors_length)] = (uint8_t)bits();
+    }
+}
+
+/* The form of the state that is lent; of size 0 without a version, or with a wrong vector file. */
+static form form_of_lent(uint32_t version, const lent *all) {
+    machine m = {.control = *all->control, .pointer = *all->pointer};
+    form none = {{0}, 0};
+    if (!is_version(version) || all->vectors_length != sizeof m.vectors) {
+        return none;
+    }
+    memcpy(m.vectors, all->vectors, sizeof m.vectors);
+    memcpy(m.masks, all->masks, sizeof m.masks);
+    memcpy(m.general, all->general, sizeof m.general);
+    return form_of(version, &m);
+}
+
+static int is_form(const room *r, const form *right) {
+    return r->length == right->size && memcmp(r->at, right->bytes, right->size) == 0;
+}
+
+static uint32_t save(uint32_t version, const lent *all, const room *target) {
+    if (version == 1 && bits() % 2 == 0) {
+        return ridgecrook_save(all->vectors, all->vectors_length, all->masks, all->general,
+                               *all->control, *all->pointer, target->at, target->length);
+    }
+    return ridgecrook_save_version(version, all->vectors, all->vectors_length, all->masks,
+                                   all->general, *all->control, *all->pointer, target->at,
+                                   target->length);
+}
+
+/* What a save is to answer, where its form has this size (R9.4). */
+static uint32_t save_answer(uint32_t version, const lent *all, size_t length, size_t size) {
+    if (!is_version(version)) {
+        return RIDGECROOK_BAD_SAVED;
+    }
+    if (size == 0 || length != size) {
+        return RIDGECROOK_BAD_SIZE;
+    }
+    return *all->control > 0xFFFF ? RIDGECROOK_BAD_CONTROL : RIDGECROOK_DONE;
+}
+
+/* A save of the state; its answer is counted and handed back in *number. */
+static int save_is_right(const lent *all, copy *kept, room *target, counts *seen,
+                         uint32_t *number) {
+    uint32_t version = any_version();
+    form right = form_of_lent(version, all);
+    lend(target, right.size);
+    keep(kept, all);
+    size_t size = ridgecrook_saved_size(version, all->vectors, all->vectors_length);
+    *number = save(version, all, target);
+    uint32_t expected = save_answer(version, all, target->length, right.size);
+    seen->saves[expected]++;
+    return size == right.size && *number == expected && all_stays(kept, all) &&
+           room_stays(target, *number) && (expected != RIDGECROOK_DONE || is_form(target, &right));
+}
+
+/* Spoils a form: its last 64 bytes, or a bit near its beginning, in its word, or anywhere. */
+static void spoil(const room *r) {
+    size_t places[] = {below(12), below(12), FILE_AT + below(4), below(r->length)};
+    if (bits() % 4 == 0) {
+        memset(r->at + r->length - RIDGECROOK_REGISTER_SIZE, 0, RIDGECROOK_REGISTER_SIZE);
+    } else {
+        r->at[places[below(4)]] ^= (uint8_t)(1 << below(8));
+    }
+}
+
+/* Makes random bytes begin like a form. */
+static void pretend(const room *r) {
+    if (r->length > 4) {
+        put(r->at, r->length - 4, 4);
+        r->at[4] = (uint8_t)any_version();
+    }
+}
+
+/* A load of what stands in the room over another state: what was saved, spoilt or not, or not. */
+static int load_is_right(const lent *all, copy *kept, room *saved, counts *seen,
+                         uint32_t *number) {
+    fill_state(all);
+    keep(kept, all);
+    keep_room(saved);
+    *number = ridgecrook_load(saved->at, saved->length, all->vectors, all->vectors_length,
+                              all->masks, all->general, all->control, all->pointer);
+    if (*number > RIDGECROOK_BAD_CONTROL && *number != RIDGECROOK_BAD_SAVED) {
+        return 0;
+    }
+    seen->loads[*number]++;
+    if (!room_stays(saved, RIDGECROOK_BAD_SAVED)) {
+        return 0;
+    }
+    if (*number != RIDGECROOK_DONE) {
+        return all_stays(kept, all);
+    }
+    form again = form_of_lent(saved->at[4], all);
+    return is_form(saved, &again) && *all->control <= 0xFFFF;
+}
+
+/* What a move is to answer where a load of its source answered so (R9.10). */
+static uint32_t move_answer(uint32_t version, uint32_t loaded, size_t length, size_t size) {
+    if (!is_version(version)) {
+        return RIDGECROOK_BAD_SAVED;
+    }
+    if (loaded != RIDGECROOK_DONE) {
+        return loaded;
+    }
+    return length != size ? RIDGECROOK_BAD_SIZE : RIDGECROOK_DONE;
+}
+
+/* A move of what a load answered so. */
+static int move_is_right(const lent *all, uint32_t loaded, room *source, room *target,
+                         counts *seen) {
+    uint32_t version = any_version();
+    form right = form_of_lent(loaded == RIDGECROOK_DONE ? version : 0, all);
+    size_t size = ridgecrook_moved_size(version, source->at, source->length);
+    lend(target, right.size);
+    uint32_t number =
+        ridgecrook_move(version, source->at, source->length, target->at, target->length);
+    uint32_t expected = move_answer(version, loaded, target->length, right.size);
+    seen->moves[expected]++;
+    return size == right.size && number == expected && room_stays(source, RIDGECROOK_BAD_SAVED) &&
+           room_stays(target, number) && (expected != RIDGECROOK_DONE || is_form(target, &right));
+}
+
+/* A save of the state, then a load and a move of what stands in the target then. */
+static int transfer_is_right(const lent *all, copy *kept, room rooms[2], counts *seen) {
+    uint32_t saved, loaded;
+    thin(all);
+    int right = save_is_right(all, kept, &rooms[0], seen, &saved);
+    int spoilt = saved == RIDGECROOK_DONE && bits() % 2 == 0;
+    if (spoilt) {
+        spoil(&rooms[0]);
+    } else if (saved != RIDGECROOK_DONE) {
+        pretend(&rooms[0]);
+    }
+    right &= load_is_right(all, kept, &rooms[0], seen, &loaded);
+    if (saved == RIDGECROOK_DONE && !spoilt) {
+        right &= loaded == RIDGECROOK_DONE;
+    }
+    if (loaded != RIDGECROOK_BAD_SIZE) { /* which says nothing of the source */
+        right &= move_is_right(all, loaded, &rooms[0], &rooms[1], seen);
+    }
+    return right;
 }
 
 /* How many calls went wrong; the first of them are printed by their number. */
 static uint64_t run(uint64_t steps, counts *seen) {
-    static const size_t sizes[8] = {1, 1, MEMORY_MOST / PAGE, 1, 1, 1, 1, 1};
+    static const size_t sizes[7] = {1, 1, MEMORY_MOST / PAGE, 1, 1, 1, 1};
     static copy kept;
-    pages in[8];
+    static room rooms[2];
+    pages in[7];
     uint64_t wrong = 0;
-    for (size_t i = 0; i < 8; i++) {
+    for (size_t i = 0; i < 7; i++) {
         in[i] = new_pages(sizes[i]);
     }
+    rooms[0].in = new_pages(1);
+    rooms[1].in = new_pages(1);
     fill(in[2].end - in[2].size, in[2].size);
     for (uint64_t step = 0; step < steps; step++) {
         lent all = place(in);
@@ -280,7 +452,7 @@ static uint64_t run(uint64_t steps, counts *seen) {
         fill_state(&all);
         int right = step_is_right(&all, &kept, seen);
         if (step % 16 == 0) {
-            right &= transfer_is_right(&all, &kept);
+            right &= transfer_is_right(&all, &kept, rooms, seen);
         }
         if (!right && wrong++ < 10) {
             printf("failed: step %" PRIu64 "\n", step);
@@ -289,10 +461,19 @@ static uint64_t run(uint64_t steps, counts *seen) {
     return wrong;
 }
 
+/* Prints how often each answer of a transfer was given; whether all were. */
+static int transfers_reached(const char *what, const uint64_t answers[ANSWERS]) {
+    uint64_t done = answers[RIDGECROOK_DONE], size = answers[RIDGECROOK_BAD_SIZE];
+    uint64_t control = answers[RIDGECROOK_BAD_CONTROL], saved = answers[RIDGECROOK_BAD_SAVED];
+    printf("%s answered 0, 1, 2, 10: %" PRIu64 " %" PRIu64 " %" PRIu64 " %" PRIu64 "\n", what, done,
+           size, control, saved);
+    return done > 0 && size > 0 && control > 0 && saved > 0;
+}
+
 int main(int count, char **arguments) {
     uint64_t steps = count > 1 ? strtoull(arguments[1], NULL, 10) : 1000000;
     state = count > 2 ? strtoull(arguments[2], NULL, 10) : 20240304;
-    counts seen = {{0}, 0, 0};
+    counts seen = {0};
     printf("%" PRIu64 " steps, seed %" PRIu64 "\n", steps, state);
     uint64_t wrong = run(steps, &seen);
     printf("answers 0 to 8:");
@@ -303,6 +484,9 @@ int main(int count, char **arguments) {
            seen.comparison);
     int reached = seen.scalar > 0 && seen.comparison > 0 &&
                   seen.answers[0] > seen.scalar + seen.comparison;
+    reached &= transfers_reached("saves", seen.saves);
+    reached &= transfers_reached("loads", seen.loads);
+    reached &= transfers_reached("moves", seen.moves);
     check(wrong == 0 && reached, "every call answered and left what the header says");
     return finish();
 }

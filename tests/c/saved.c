@@ -1,272 +1,469 @@
 /*
- * The saved form as a C engineer uses it (R9.1 to R9.7): its bytes, both round trips, each refusal
- * and what it leaves, and what C must keep (R8.4): null pointers with length 0, sizes above 2 to
- * the 32, and the ends of all that is lent.
+ * Saves and loads as a C engineer uses them (R9.1 to R9.9, R9.12): bytes and sizes of both
+ * versions, both round trips, each refusal and what it leaves, and what C must keep (R8.4): null
+ * pointers with length 0, sizes above 2 to the 32, and the ends of all that is lent. Moves are in
+ * moved.c.
  */
-#include "machine.h" /* first, since it chooses what the system's headers declare */
+#include "form.h" /* first, since it chooses what the system's headers declare */
 
 #include "check.h"
 
-/* A state in which every byte depends on its place and on the number given. */
-static void numbered(machine *m, unsigned number) {
-    uint8_t *bytes = (uint8_t *)m;
-    for (size_t i = 0; i < sizeof *m; i++) {
-        bytes[i] = (uint8_t)(i * 7 + i / 256 + number);
+typedef uint32_t saver(const uint8_t *vectors, size_t vectors_length, const uint64_t masks[8],
+                       const uint64_t general[16], uint32_t control, uint64_t pointer,
+                       uint8_t *target, size_t target_length);
+
+static uint32_t save_1(const uint8_t *vectors, size_t vectors_length, const uint64_t masks[8],
+                       const uint64_t general[16], uint32_t control, uint64_t pointer,
+                       uint8_t *target, size_t target_length) {
+    return ridgecrook_save_version(1, vectors, vectors_length, masks, general, control, pointer,
+                                   target, target_length);
+}
+
+static uint32_t save_2(const uint8_t *vectors, size_t vectors_length, const uint64_t masks[8],
+                       const uint64_t general[16], uint32_t control, uint64_t pointer,
+                       uint8_t *target, size_t target_length) {
+    return ridgecrook_save_version(2, vectors, vectors_length, masks, general, control, pointer,
+                                   target, target_length);
+}
+
+/* Every way to save, and the version that it writes. */
+static const struct {
+    saver *save;
+    uint32_t version;
+} WAYS[] = {{ridgecrook_save, 1}, {save_1, 1}, {save_2, 2}};
+enum { WAYS_COUNT = sizeof WAYS / sizeof WAYS[0] };
+
+static uint32_t save(size_t way, const machine *m, uint8_t *target, size_t target_length) {
+    return WAYS[way].save(m->vectors, sizeof m->vectors, m->masks, m->general, m->control,
+                          m->pointer, target, target_length);
+}
+
+static size_t size_in(uint32_t version, const machine *m) {
+    return ridgecrook_saved_size(version, m->vectors, sizeof m->vectors);
+}
+
+/* Whether a save writes this form and nothing behind it, and leaves the state. */
+static int saves_as(size_t way, const machine *m, const form *right) {
+    machine old = *m;
+    form made;
+    memset(made.bytes, UNTOUCHED, sizeof made.bytes);
+    made.size = size_in(WAYS[way].version, m);
+    return made.size == right->size && save(way, m, made.bytes, made.size) == RIDGECROOK_DONE &&
+           memcmp(made.bytes, right->bytes, made.size) == 0 && same(m, &old) &&
+           holds_only(made.bytes + made.size, ROOM - made.size, UNTOUCHED);
+}
+
+/* Whether a load of this form, over some other state, makes this state and leaves the form. */
+static int loads_as(const form *saved, const machine *right) {
+    form before = *saved;
+    machine m = numbered(ALL);
+    return load(saved->bytes, saved->size, &m) == RIDGECROOK_DONE && same(&m, right) &&
+           same_form(saved, &before);
+}
+
+/* Forms that were written by hand. */
+static void check_bytes(void) {
+    check(BY_HAND[0].size == RIDGECROOK_SAVED_SIZE, "the size of version 1");
+    for (size_t way = 0; way < WAYS_COUNT; way++) {
+        const form *right = &BY_HAND[WAYS[way].version - 1];
+        check(saves_as(way, &HELD, right), "the bytes of a save");
+        check(loads_as(right, &HELD), "and a load of them");
     }
-    m->control &= 0xFFFF;
 }
 
-static uint32_t save(const machine *m, uint8_t *target, size_t target_length) {
-    return ridgecrook_save(m->vectors, sizeof m->vectors, m->masks, m->general, m->control,
-                           m->pointer, target, target_length);
+/* None of the registers is present, or all are, and much between: saved and loaded, both ways. */
+static void check_round_trips(void) {
+    for (size_t way = 0; way < WAYS_COUNT; way++) {
+        int saved = 1, loaded = 1;
+        for (uint32_t number = 0; number < WORDS; number++) {
+            machine m = numbered(number);
+            form right = form_of(WAYS[way].version, &m);
+            saved &= saves_as(way, &m, &right);
+            loaded &= loads_as(&right, &m);
+        }
+        check(saved, "a state, saved and so after a load, gives the bytes of its form");
+        check(loaded, "a form, loaded and so after a save, gives its state");
+    }
 }
 
-static uint32_t load(const uint8_t *saved, size_t saved_length, machine *m) {
-    return ridgecrook_load(saved, saved_length, m->vectors, sizeof m->vectors, m->masks,
-                           m->general, &m->control, &m->pointer);
+/* One byte that is not 0 makes a register present (R9.8), so a register of negative zeros is. */
+static void check_presence(void) {
+    int alone = 1;
+    for (size_t place = 0; place < RIDGECROOK_VECTORS_SIZE; place++) {
+        machine m;
+        blank(&m);
+        m.vectors[place] = (uint8_t)(1 << place % 8);
+        form right = form_with(UINT32_C(1) << place / RIDGECROOK_REGISTER_SIZE, &m);
+        alone &= saves_as(2, &m, &right) && loads_as(&right, &m);
+    }
+    check(alone, "one byte alone makes its register present");
+    machine zeros;
+    blank(&zeros);
+    check(size_in(2, &zeros) == PACKED_AT, "no register present");
+    for (size_t i = 1; i < sizeof zeros.vectors; i += 2) {
+        zeros.vectors[i] = 0x80;
+    }
+    check(size_in(2, &zeros) == RIDGECROOK_SAVED_LARGEST, "negative zeros are present");
+    form right = form_with(UINT32_MAX, &zeros);
+    check(saves_as(2, &zeros, &right) && loads_as(&right, &zeros), "saved and loaded");
 }
 
-static int stands_at(const uint8_t *saved, size_t at, uint64_t value, size_t size) {
-    for (size_t i = 0; i < size; i++) {
-        if (saved[at + i] != (uint8_t)(value >> 8 * (size - 1 - i))) {
-            return 0;
+/* No size where a save would refuse the version or the vector file, whatever else (R9.12). */
+static void check_no_size(void) {
+    static const int lengths[] = {-1, 1, -64, 64, NOTHING};
+    uint8_t file[RIDGECROOK_VECTORS_SIZE + 64] = {1};
+    for (uint32_t version = 1; version <= VERSIONS; version++) {
+        for (size_t i = 0; i < sizeof lengths / sizeof lengths[0]; i++) {
+            size_t length = changed(RIDGECROOK_VECTORS_SIZE, lengths[i]);
+            check(ridgecrook_saved_size(version, file, length) == 0, "a wrong vector file");
         }
     }
-    return 1;
-}
-
-static void check_layout(void) {
-    uint8_t saved[RIDGECROOK_SAVED_SIZE];
-    machine m;
-    int general = 1, masks = 1;
-    numbered(&m, 1);
-    memset(saved, 0xA5, sizeof saved);
-    check(RIDGECROOK_SAVED_SIZE == 209 + RIDGECROOK_VECTORS_SIZE, "2,257 bytes");
-    check(save(&m, saved, sizeof saved) == RIDGECROOK_DONE, "a save is done");
-    check(stands_at(saved, 0, 2253, 4), "the length of what follows");
-    check(saved[4] == 1, "version 1");
-    check(stands_at(saved, 5, m.control, 4), "the control word");
-    check(stands_at(saved, 9, m.pointer, 8), "the pointer");
-    for (size_t i = 0; i < RIDGECROOK_GENERAL; i++) {
-        general &= stands_at(saved, 17 + 8 * i, m.general[i], 8);
-    }
-    check(general, "the general registers, in rising order");
-    for (size_t i = 0; i < RIDGECROOK_MASKS; i++) {
-        masks &= stands_at(saved, 145 + 8 * i, m.masks[i], 8);
-    }
-    check(masks, "the masks, in rising order");
-    check(memcmp(saved + 209, m.vectors, sizeof m.vectors) == 0, "the vector file as it is");
-}
-
-static void check_round_trips(void) {
-    uint8_t saved[RIDGECROOK_SAVED_SIZE], again[RIDGECROOK_SAVED_SIZE];
-    int loaded = 1, kept = 1;
-    for (unsigned number = 0; number < 256; number++) {
-        machine m, other;
-        numbered(&m, number);
-        numbered(&other, number + 100);
-        loaded &= save(&m, saved, sizeof saved) == RIDGECROOK_DONE;
-        loaded &= load(saved, sizeof saved, &other) == RIDGECROOK_DONE && same(&m, &other);
-        kept &= save(&other, again, sizeof again) == RIDGECROOK_DONE;
-        kept &= memcmp(saved, again, sizeof saved) == 0;
-    }
-    check(loaded, "a state that is saved and loaded is as it was");
-    check(kept, "bytes that are loaded and saved are as they were");
-}
-
-/* Refused saves: the target and the state stay. */
-static void check_refused_saves(void) {
-    static const struct {
-        size_t vectors, target;
-        uint32_t control, number;
-    } rows[] = {
-        {2047, 2257, 0x1F80, RIDGECROOK_BAD_SIZE},
-        {2049, 2257, 0x1F80, RIDGECROOK_BAD_SIZE},
-        {0, 2257, 0x1F80, RIDGECROOK_BAD_SIZE},
-        {2048, 2256, 0x1F80, RIDGECROOK_BAD_SIZE},
-        {2048, 2258, 0x1F80, RIDGECROOK_BAD_SIZE},
-        {2048, 0, 0x1F80, RIDGECROOK_BAD_SIZE},
-        {2048, 2253, 0x1F80, RIDGECROOK_BAD_SIZE},
-        {2048, 2257, 0x10000, RIDGECROOK_BAD_CONTROL},
-        {2048, 2257, 0x80000000, RIDGECROOK_BAD_CONTROL},
-        {2047, 2257, 0x10000, RIDGECROOK_BAD_SIZE},
-        {2048, 2258, 0x10000, RIDGECROOK_BAD_SIZE},
-    };
-    for (size_t i = 0; i < sizeof rows / sizeof rows[0]; i++) {
-        uint8_t file[2049], target[2258], before[2258];
-        machine m, old;
-        numbered(&m, 5);
-        old = m;
-        memset(file, 0x3C, sizeof file);
-        memset(target, 0xA5, sizeof target);
-        memcpy(before, target, sizeof target);
-        uint32_t number = ridgecrook_save(file, rows[i].vectors, m.masks, m.general,
-                                          rows[i].control, m.pointer, target, rows[i].target);
-        check(number == rows[i].number, "the answer of a refused save");
-        check(memcmp(target, before, sizeof target) == 0, "it leaves the target as it was");
-        check(same(&m, &old), "and the state");
+    for (size_t i = 0; i < NO_VERSIONS; i++) {
+        check(size_in(NO_VERSION[i], &HELD) == 0, "the size of no version");
     }
 }
 
+/* A save that is refused, with lengths that differ so much from the right ones. */
 typedef struct {
-    size_t vectors, saved;
-    int place, byte; /* the byte of the saved form that is spoiled; none at -1 */
-    uint32_t number;
-} refused_load;
+    int vectors, target;
+    uint32_t control, number;
+} refused_save;
 
-static void check_refused_load(const refused_load *row) {
-    uint8_t file[2049], saved[2258] = {0}, before[2258];
-    machine m, old;
-    numbered(&m, 5);
-    save(&m, saved, RIDGECROOK_SAVED_SIZE);
-    if (row->place >= 0) {
-        saved[row->place] = (uint8_t)row->byte;
-    }
-    memcpy(before, saved, sizeof saved);
-    numbered(&m, 6);
-    old = m;
-    memset(file, 0xA5, sizeof file);
-    uint32_t number = ridgecrook_load(saved, row->saved, file, row->vectors, m.masks, m.general,
-                                      &m.control, &m.pointer);
-    check(number == row->number, "the answer of a refused load");
-    check(same(&m, &old), "it leaves the registers as they were");
-    check(memcmp(saved, before, sizeof saved) == 0, "and the saved form");
-    check(file[0] == 0xA5 && memcmp(file, file + 1, 2048) == 0, "and the vector file");
+static const refused_save REFUSED_SAVES[] = {
+    {-1, 0, 0x1F80, RIDGECROOK_BAD_SIZE},       {1, 0, 0x1F80, RIDGECROOK_BAD_SIZE},
+    {NOTHING, 0, 0x1F80, RIDGECROOK_BAD_SIZE},  {0, -1, 0x1F80, RIDGECROOK_BAD_SIZE},
+    {0, 1, 0x1F80, RIDGECROOK_BAD_SIZE},        {0, NOTHING, 0x1F80, RIDGECROOK_BAD_SIZE},
+    {0, -4, 0x1F80, RIDGECROOK_BAD_SIZE},       {0, -64, 0x1F80, RIDGECROOK_BAD_SIZE},
+    {0, 0, 0x10000, RIDGECROOK_BAD_CONTROL},    {0, 0, 0x80000000, RIDGECROOK_BAD_CONTROL},
+    {-1, 0, 0x10000, RIDGECROOK_BAD_SIZE},      {0, 1, 0x10000, RIDGECROOK_BAD_SIZE},
+    {-1, 1, 0x10000, RIDGECROOK_BAD_SIZE},
+};
+enum { REFUSED_SAVES_COUNT = sizeof REFUSED_SAVES / sizeof REFUSED_SAVES[0] };
+
+/* What a refused save is lent, and what that held before. */
+typedef struct {
+    uint8_t file[RIDGECROOK_VECTORS_SIZE + 1], target[ROOM];
+    machine m;
+} lent_to_save;
+
+static void lend_to_save(lent_to_save *all) {
+    memset(all, UNTOUCHED, sizeof *all);
+    all->m = numbered(SOME);
+    memcpy(all->file, all->m.vectors, sizeof all->m.vectors);
 }
 
-/* Refused loads: the state and the saved form stay. */
-static void check_refused_loads(void) {
-    static const refused_load rows[] = {
-        {2047, 2257, -1, 0, RIDGECROOK_BAD_SIZE},
-        {2049, 2257, -1, 0, RIDGECROOK_BAD_SIZE},
-        {2047, 2256, -1, 0, RIDGECROOK_BAD_SIZE},
-        {2047, 2257, 4, 2, RIDGECROOK_BAD_SIZE},
-        {2047, 2257, 6, 1, RIDGECROOK_BAD_SIZE},
-        {2048, 2256, -1, 0, RIDGECROOK_BAD_SAVED},
-        {2048, 2258, -1, 0, RIDGECROOK_BAD_SAVED},
-        {2048, 0, -1, 0, RIDGECROOK_BAD_SAVED},
-        {2048, 4, -1, 0, RIDGECROOK_BAD_SAVED},
-        {2048, 2256, 5, 0x80, RIDGECROOK_BAD_SAVED},
-        {2048, 2257, 0, 0x80, RIDGECROOK_BAD_SAVED},
-        {2048, 2257, 1, 1, RIDGECROOK_BAD_SAVED},
-        {2048, 2257, 2, 0, RIDGECROOK_BAD_SAVED},
-        {2048, 2257, 3, 0xD1, RIDGECROOK_BAD_SAVED},
-        {2048, 2257, 4, 0, RIDGECROOK_BAD_SAVED},
-        {2048, 2257, 4, 2, RIDGECROOK_BAD_SAVED},
-        {2048, 2257, 5, 0x80, RIDGECROOK_BAD_CONTROL},
-        {2048, 2257, 6, 1, RIDGECROOK_BAD_CONTROL},
-    };
-    for (size_t i = 0; i < sizeof rows / sizeof rows[0]; i++) {
-        check_refused_load(&rows[i]);
+static void check_refused_save(size_t way, const refused_save *row) {
+    lent_to_save all, before;
+    lend_to_save(&all);
+    memcpy(&before, &all, sizeof all);
+    size_t right = form_of(WAYS[way].version, &all.m).size;
+    uint32_t number = WAYS[way].save(all.file, changed(RIDGECROOK_VECTORS_SIZE, row->vectors),
+                                     all.m.masks, all.m.general, row->control, all.m.pointer,
+                                     all.target, changed(right, row->target));
+    check(number == row->number, "the answer of a refused save");
+    check(memcmp(&all, &before, sizeof all) == 0, "it leaves all that was lent");
+}
+
+/* No version comes before every other cause. */
+static void check_version_first(uint32_t version, int vectors, size_t target, uint32_t control) {
+    lent_to_save all, before;
+    lend_to_save(&all);
+    memcpy(&before, &all, sizeof all);
+    uint32_t number = ridgecrook_save_version(
+        version, all.file, changed(RIDGECROOK_VECTORS_SIZE, vectors), all.m.masks, all.m.general,
+        control, all.m.pointer, all.target, target);
+    check(number == RIDGECROOK_BAD_SAVED, "a save in no version");
+    check(memcmp(&all, &before, sizeof all) == 0, "leaves all that was lent");
+}
+
+static void check_refused_saves(void) {
+    for (size_t i = 0; i < REFUSED_SAVES_COUNT; i++) {
+        for (size_t way = 0; way < WAYS_COUNT; way++) {
+            check_refused_save(way, &REFUSED_SAVES[i]);
+        }
     }
+    machine m = numbered(SOME);
+    for (size_t i = 0; i < NO_VERSIONS; i++) {
+        for (uint32_t version = 1; version <= VERSIONS; version++) {
+            check_version_first(NO_VERSION[i], 0, form_of(version, &m).size, 0x1F80);
+        }
+        check_version_first(NO_VERSION[i], -1, RIDGECROOK_SAVED_SIZE, 0x1F80);
+        check_version_first(NO_VERSION[i], 0, 0, 0x10000);
+    }
+}
+
+/* A load with these lengths that is answered so, and leaves all that was lent. */
+static void check_refused_load(const form *saved, size_t saved_length, size_t vectors_length,
+                               uint32_t right) {
+    uint8_t file[RIDGECROOK_VECTORS_SIZE + 1];
+    form before = *saved;
+    machine m = numbered(SOME + 1), old = m;
+    memset(file, UNTOUCHED, sizeof file);
+    uint32_t number = ridgecrook_load(saved->bytes, saved_length, file, vectors_length, m.masks,
+                                      m.general, &m.control, &m.pointer);
+    check(number == right, "the answer of a refused load");
+    check(same(&m, &old), "it leaves the registers as they were");
+    check(same_form(saved, &before), "and the saved form");
+    check(holds_only(file, sizeof file, UNTOUCHED), "and the vector file");
+}
+
+static void check_refused_loads(void) {
+    static const int lengths[] = {-1, 1, NOTHING};
+    machine m = numbered(SOME);
+    for (uint32_t version = 1; version <= VERSIONS; version++) {
+        form saved = form_of(version, &m);
+        for (size_t i = 0; i < sizeof lengths / sizeof lengths[0]; i++) {
+            size_t length = changed(sizeof m.vectors, lengths[i]);
+            check_refused_load(&saved, saved.size, length, RIDGECROOK_BAD_SIZE);
+        }
+        for (size_t i = 0; i < DAMAGES_COUNT; i++) {
+            form spoilt = saved;
+            size_t length = damaged(&spoilt, &DAMAGES[i]);
+            check_refused_load(&spoilt, length, sizeof m.vectors, DAMAGES[i].number);
+            check_refused_load(&spoilt, length, sizeof m.vectors - 1, RIDGECROOK_BAD_SIZE);
+        }
+    }
+}
+
+/* Each bit of the word wrong, with the size as before; and a register marked that is zero. */
+static void check_refused_words(void) {
+    for (size_t i = 0; i < REGISTERS; i++) {
+        machine m = numbered(SOME);
+        form spoilt = form_of(2, &m);
+        spoilt.bytes[FILE_AT + 3 - i / 8] ^= (uint8_t)(1 << i % 8);
+        check_refused_load(&spoilt, spoilt.size, sizeof m.vectors, RIDGECROOK_BAD_SAVED);
+        m = numbered(REGISTERS + (uint32_t)i); /* all registers but this one */
+        form marked = form_with(UINT32_MAX, &m);
+        check_refused_load(&marked, marked.size, sizeof m.vectors, RIDGECROOK_BAD_SAVED);
+        marked.bytes[6] = 1; /* of the control word, which is looked at later */
+        check_refused_load(&marked, marked.size, sizeof m.vectors, RIDGECROOK_BAD_SAVED);
+    }
+    machine zeros;
+    blank(&zeros);
+    form marked = form_with(UINT32_MAX, &zeros);
+    check_refused_load(&marked, marked.size, sizeof zeros.vectors, RIDGECROOK_BAD_SAVED);
 }
 
 static void check_null(void) {
-    machine m, before;
-    numbered(&m, 7);
-    before = m;
+    machine m = numbered(SOME), before = m;
+    uint8_t target[RIDGECROOK_SAVED_SIZE];
     check(load(NULL, 0, &m) == RIDGECROOK_BAD_SAVED, "no saved form at a null pointer");
+    check(ridgecrook_load(BY_HAND[1].bytes, BY_HAND[1].size, NULL, 0, m.masks, m.general,
+                          &m.control, &m.pointer) == RIDGECROOK_BAD_SIZE,
+          "no vector file to load into");
+    for (size_t way = 0; way < WAYS_COUNT; way++) {
+        check(save(way, &m, NULL, 0) == RIDGECROOK_BAD_SIZE, "no target");
+        check(WAYS[way].save(NULL, 0, m.masks, m.general, m.control, m.pointer, target,
+                             sizeof target) == RIDGECROOK_BAD_SIZE,
+              "no vector file to save");
+        check(ridgecrook_saved_size(WAYS[way].version, NULL, 0) == 0, "its size");
+    }
+    check(ridgecrook_save_version(3, NULL, 0, m.masks, m.general, m.control, m.pointer, NULL, 0) ==
+              RIDGECROOK_BAD_SAVED,
+          "neither of them nor a version");
     check(same(&m, &before), "leaves all as before");
 }
 
-/* Sizes that are right in their lower 32 bits. The pages are reserved and hold zeros. */
+/* Lengths that are right in their lower 32 bits. */
 static void check_huge(void) {
     size_t above = (size_t)1 << 32;
-    uint8_t *huge = mmap(NULL, above + PAGE, PROT_READ | PROT_WRITE,
-                         MAP_PRIVATE | MAP_ANONYMOUS | MAP_NORESERVE, -1, 0);
-    if (huge == MAP_FAILED) {
-        printf("skipped: no 4 GiB of addresses for the sizes above 2 to the 32\n");
+    uint8_t *huge = huge_pages(above + PAGE);
+    if (huge == NULL) {
         return;
     }
-    static uint8_t saved[RIDGECROOK_SAVED_SIZE];
-    machine m;
-    numbered(&m, 8);
-    check(save(&m, huge, above + 2257) == RIDGECROOK_BAD_SIZE, "a huge target");
-    check(save(&m, saved, sizeof saved) == RIDGECROOK_DONE, "a target of the right size");
-    check(ridgecrook_save(huge, above + 2048, m.masks, m.general, m.control, m.pointer, saved,
-                          sizeof saved) == RIDGECROOK_BAD_SIZE,
-          "a huge vector file to save");
-    check(ridgecrook_load(saved, sizeof saved, huge, above + 2048, m.masks, m.general, &m.control,
-                          &m.pointer) == RIDGECROOK_BAD_SIZE,
-          "a huge vector file to load into");
-    memcpy(huge, saved, sizeof saved);
-    check(load(huge, above + 2257, &m) == RIDGECROOK_BAD_SAVED, "a huge saved form");
+    machine m = numbered(SOME);
+    for (size_t way = 0; way < WAYS_COUNT; way++) {
+        form saved = form_of(WAYS[way].version, &m);
+        check(save(way, &m, huge, above + saved.size) == RIDGECROOK_BAD_SIZE, "a huge target");
+        check(holds_only(huge, ROOM, 0), "stays as it was");
+        memcpy(huge, saved.bytes, saved.size);
+        check(load(huge, above + saved.size, &m) == RIDGECROOK_BAD_SAVED, "a huge saved form");
+        memcpy(huge, m.vectors, sizeof m.vectors);
+        size_t length = above + sizeof m.vectors;
+        check(WAYS[way].save(huge, length, m.masks, m.general, m.control, m.pointer, saved.bytes,
+                             saved.size) == RIDGECROOK_BAD_SIZE,
+              "a huge vector file to save");
+        check(ridgecrook_saved_size(WAYS[way].version, huge, length) == 0, "its size");
+        check(ridgecrook_load(saved.bytes, saved.size, huge, length, m.masks, m.general,
+                              &m.control, &m.pointer) == RIDGECROOK_BAD_SIZE,
+              "a huge vector file to load into");
+        memset(huge, 0, ROOM);
+    }
     munmap(huge, above + PAGE);
 }
 
-/* What is lent, each at one end of the pages that may be touched. */
+/* Bytes need no alignment. */
+static void check_alignment(void) {
+    uint8_t file[RIDGECROOK_VECTORS_SIZE + 64], bytes[ROOM + 64];
+    machine m = numbered(SOME), other = numbered(ALL);
+    for (size_t way = 0; way < WAYS_COUNT; way++) {
+        form right = form_of(WAYS[way].version, &m);
+        int done = 1;
+        for (size_t i = 0; i < 64; i++) {
+            uint8_t *vectors = file + i, *target = bytes + 63 - i;
+            memcpy(vectors, m.vectors, sizeof m.vectors);
+            done &= WAYS[way].save(vectors, sizeof m.vectors, m.masks, m.general, m.control,
+                                   m.pointer, target, right.size) == RIDGECROOK_DONE &&
+                    memcmp(target, right.bytes, right.size) == 0;
+            memset(vectors, UNTOUCHED, sizeof m.vectors);
+            done &= ridgecrook_load(target, right.size, vectors, sizeof m.vectors, other.masks,
+                                    other.general, &other.control,
+                                    &other.pointer) == RIDGECROOK_DONE &&
+                    memcmp(vectors, m.vectors, sizeof m.vectors) == 0;
+        }
+        check(done, "a save and a load at every alignment");
+    }
+}
+
+/* What is only read may overlap: registers of both kinds out of the vector file. */
+static void check_overlap(void) {
+    machine m = numbered(SOME);
+    uint64_t words[RIDGECROOK_VECTORS_SIZE / sizeof(uint64_t)];
+    memcpy(words, m.vectors, sizeof words);
+    memcpy(m.masks, words + 70, sizeof m.masks);
+    memcpy(m.general, words + 66, sizeof m.general);
+    for (size_t way = 0; way < WAYS_COUNT; way++) {
+        form right = form_of(WAYS[way].version, &m), made = {{0}, right.size};
+        check(WAYS[way].save((const uint8_t *)words, sizeof words, words + 70, words + 66,
+                             m.control, m.pointer, made.bytes, made.size) == RIDGECROOK_DONE &&
+                  same_form(&made, &right),
+              "a save of registers that overlap");
+    }
+}
+
+/* What is lent, each at one end of a page beyond which nothing may be touched. */
 typedef struct {
     uint8_t *bytes, *vectors;
     uint64_t *masks, *general, *pointer;
     uint32_t *control;
 } lent;
 
-static lent at_the_end(uint8_t *const ends[6], size_t bytes, size_t vectors) {
+static lent lend(uint8_t *const ends[6], size_t bytes, size_t vectors, int at_beginning) {
     lent all = {
-        ends[0] - bytes,
-        ends[1] - vectors,
-        (uint64_t *)(void *)ends[2] - 8,
-        (uint64_t *)(void *)ends[3] - 16,
-        (uint64_t *)(void *)ends[4] - 1,
-        (uint32_t *)(void *)ends[5] - 1,
+        in_page(ends[0], bytes, at_beginning),
+        in_page(ends[1], vectors, at_beginning),
+        (uint64_t *)(void *)in_page(ends[2], sizeof HELD.masks, at_beginning),
+        (uint64_t *)(void *)in_page(ends[3], sizeof HELD.general, at_beginning),
+        (uint64_t *)(void *)in_page(ends[4], sizeof HELD.pointer, at_beginning),
+        (uint32_t *)(void *)in_page(ends[5], sizeof HELD.control, at_beginning),
     };
     return all;
 }
 
-static lent at_the_beginning(uint8_t *const ends[6]) {
-    lent all = {
-        ends[0] - PAGE,
-        ends[1] - PAGE,
-        (uint64_t *)(void *)(ends[2] - PAGE),
-        (uint64_t *)(void *)(ends[3] - PAGE),
-        (uint64_t *)(void *)(ends[4] - PAGE),
-        (uint32_t *)(void *)(ends[5] - PAGE),
-    };
-    return all;
+/* Puts as much of a state there as there is room for. */
+static void put_state(const lent *all, const machine *m, size_t vectors) {
+    memcpy(all->vectors, m->vectors, vectors < sizeof m->vectors ? vectors : sizeof m->vectors);
+    memcpy(all->masks, m->masks, sizeof m->masks);
+    memcpy(all->general, m->general, sizeof m->general);
+    *all->control = m->control;
+    *all->pointer = m->pointer;
 }
 
-/* A save and a load with all that is lent there; the numbers that both are to answer. */
-static int goes(lent all, size_t bytes, size_t vectors, uint32_t saving, uint32_t loading) {
-    *all.control = 0x1F80;
-    *all.pointer = 0;
-    uint32_t saved = ridgecrook_save(all.vectors, vectors, all.masks, all.general, *all.control,
-                                     *all.pointer, all.bytes, bytes);
-    uint32_t loaded = ridgecrook_load(all.bytes, bytes, all.vectors, vectors, all.masks,
-                                      all.general, all.control, all.pointer);
-    return saved == saving && loaded == loading;
+static int has_state(const lent *all, const machine *m) {
+    return memcmp(all->vectors, m->vectors, sizeof m->vectors) == 0 &&
+           memcmp(all->masks, m->masks, sizeof m->masks) == 0 &&
+           memcmp(all->general, m->general, sizeof m->general) == 0 &&
+           *all->control == m->control && *all->pointer == m->pointer;
+}
+
+static uint32_t save_lent(size_t way, const lent *all, size_t bytes, size_t vectors) {
+    return WAYS[way].save(all->vectors, vectors, all->masks, all->general, *all->control,
+                          *all->pointer, all->bytes, bytes);
+}
+
+static uint32_t load_lent(const lent *all, size_t bytes, size_t vectors) {
+    return ridgecrook_load(all->bytes, bytes, all->vectors, vectors, all->masks, all->general,
+                           all->control, all->pointer);
+}
+
+/* A save and a load of what it wrote, all of it at ends of pages. */
+static int goes_at_ends(uint8_t *const ends[6], size_t way, uint32_t number, int at_beginning) {
+    machine m = numbered(number), other = numbered(number + 1);
+    form right = form_of(WAYS[way].version, &m);
+    lent all = lend(ends, right.size, sizeof m.vectors, at_beginning);
+    put_state(&all, &m, sizeof m.vectors);
+    size_t size = ridgecrook_saved_size(WAYS[way].version, all.vectors, sizeof m.vectors);
+    int saved = save_lent(way, &all, right.size, sizeof m.vectors) == RIDGECROOK_DONE &&
+                memcmp(all.bytes, right.bytes, right.size) == 0;
+    put_state(&all, &other, sizeof m.vectors);
+    int loaded = load_lent(&all, right.size, sizeof m.vectors) == RIDGECROOK_DONE;
+    return size == right.size && saved && loaded && has_state(&all, &m);
+}
+
+/* A target and a saved form of another size at an end of a page; the latter may count itself. */
+static int size_is_refused(uint8_t *const ends[6], size_t way, size_t size, int at_beginning) {
+    machine m = numbered(SOME);
+    lent all = lend(ends, size, sizeof m.vectors, at_beginning);
+    put_state(&all, &m, sizeof m.vectors);
+    memset(all.bytes, UNTOUCHED, size);
+    int refused = save_lent(way, &all, size, sizeof m.vectors) == RIDGECROOK_BAD_SIZE &&
+                  holds_only(all.bytes, size, UNTOUCHED);
+    form cut = form_of(WAYS[way].version, &m);
+    memcpy(all.bytes, cut.bytes, size);
+    refused &= load_lent(&all, size, sizeof m.vectors) == RIDGECROOK_BAD_SAVED;
+    if (size >= 4) {
+        put(all.bytes, size - 4, 4);
+        refused &= load_lent(&all, size, sizeof m.vectors) == RIDGECROOK_BAD_SAVED;
+    }
+    return refused && has_state(&all, &m);
+}
+
+/* A vector file of another size at an end of a page. */
+static int file_is_refused(uint8_t *const ends[6], size_t way, size_t size, int at_beginning) {
+    machine m = numbered(SOME);
+    form right = form_of(WAYS[way].version, &m);
+    lent all = lend(ends, right.size, size, at_beginning);
+    put_state(&all, &m, size);
+    memcpy(all.bytes, right.bytes, right.size);
+    return ridgecrook_saved_size(WAYS[way].version, all.vectors, size) == 0 &&
+           save_lent(way, &all, right.size, size) == RIDGECROOK_BAD_SIZE &&
+           load_lent(&all, right.size, size) == RIDGECROOK_BAD_SIZE &&
+           memcmp(all.bytes, right.bytes, right.size) == 0;
+}
+
+static void check_ends_of(uint8_t *const ends[6], size_t way, int at_beginning) {
+    int done = 1, sizes = 1, files = 1;
+    machine m = numbered(SOME);
+    for (uint32_t number = 0; number < WORDS; number++) {
+        done &= goes_at_ends(ends, way, number, at_beginning);
+    }
+    for (size_t size = 0; size <= ROOM; size++) {
+        if (size != form_of(WAYS[way].version, &m).size) {
+            sizes &= size_is_refused(ends, way, size, at_beginning);
+        }
+        if (size != RIDGECROOK_VECTORS_SIZE) {
+            files &= file_is_refused(ends, way, size, at_beginning);
+        }
+    }
+    check(done, "a save and a load at the ends of pages");
+    check(sizes, "every other size of a form there is refused");
+    check(files, "every other size of a vector file there is refused");
 }
 
 /* One byte beyond what is lent, on either side, would stop the program. */
 static void check_ends(void) {
     uint8_t *ends[6];
-    int refused = 1;
     for (size_t i = 0; i < 6; i++) {
         ends[i] = page_end();
     }
-    lent end = at_the_end(ends, 2257, 2048);
-    check(goes(end, 2257, 2048, RIDGECROOK_DONE, RIDGECROOK_DONE), "at the end of a page");
-    lent beginning = at_the_beginning(ends);
-    check(goes(beginning, 2257, 2048, RIDGECROOK_DONE, RIDGECROOK_DONE), "at the beginning");
-    for (size_t size = 0; size < 2257; size++) {
-        lent cut = at_the_end(ends, size, 2048);
-        refused &= goes(cut, size, 2048, RIDGECROOK_BAD_SIZE, RIDGECROOK_BAD_SAVED);
+    for (size_t way = 0; way < WAYS_COUNT; way++) {
+        check_ends_of(ends, way, 0);
+        check_ends_of(ends, way, 1);
     }
-    check(refused, "every cut at the end of a page is refused");
-    refused = 1;
-    for (size_t size = 0; size < 2048; size++) {
-        lent cut = at_the_end(ends, 2257, size);
-        refused &= goes(cut, 2257, size, RIDGECROOK_BAD_SIZE, RIDGECROOK_BAD_SIZE);
-    }
-    check(refused, "every shorter vector file at the end of a page is refused");
 }
 
 int main(void) {
-    check_layout();
+    check_bytes();
     check_round_trips();
+    check_presence();
+    check_no_size();
     check_refused_saves();
     check_refused_loads();
+    check_refused_words();
     check_null();
     check_huge();
+    check_alignment();
+    check_overlap();
     check_ends();
     return finish();
 }
