@@ -1,5 +1,6 @@
 //! Saved forms (R9.1) written, read and moved with the same checks and answers as the library's,
-//! unproved and written for speed: whole copies, and a register is all zero where eight numbers are.
+//! unproved and written for speed: registers are copied whole, and one is all zero where the eight
+//! numbers in it are. A load clears the vector file first: a branch for each register took longer.
 
 use ridgecrook_tests::machine::{Machine, REGISTER_SIZE, VECTORS_SIZE};
 
