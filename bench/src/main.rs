@@ -1,7 +1,8 @@
 //! Times the library, called through C, beside the plain implementations, in one run and by turns,
-//! and prints one table: each operation of the arithmetic, then whole steps.
+//! and prints one table: each operation of the arithmetic, then whole steps, then saved forms.
 
 mod arithmetic;
+mod saved;
 mod steps;
 
 use ridgecrook_tests::random::Random;
@@ -68,16 +69,26 @@ fn time(calls: usize, mut call: impl FnMut(usize) -> u64) -> Timed {
     (elapsed / calls as f64, std::hint::black_box(digest))
 }
 
+/// A number that depends on every byte, but that up to seven at the end are left out.
+fn sum(bytes: &[u8]) -> u64 {
+    let words = bytes.chunks_exact(8);
+    words.fold(0, |sum: u64, word| {
+        sum.wrapping_add(u64::from_le_bytes(word.try_into().expect("8 bytes")))
+    })
+}
+
 fn main() {
     let mut rows = arithmetic::rows();
     rows.extend(steps::rows(ROUNDS));
+    rows.extend(saved::rows());
     for _ in 0..ROUNDS {
         rows.iter_mut().for_each(Row::round);
     }
-    println!("nanoseconds a call: an operation on halves, or a whole step");
+    println!("nanoseconds a call: an operation on halves, a whole step, or one with a saved form");
     println!("tame halves: 2 to the -4 to 2 to the 4, in mode 0 alone; else modes mixed;");
     println!("comparisons of halves by LT_OS where they are tame, else predicates mixed;");
     println!("{}", steps::SETTING);
+    println!("{}", saved::SETTING);
     println!(
         "{:<20} {:<29} {:>10} {:>10} {:>8}",
         "call", "on", "library", "plain", "ratio"

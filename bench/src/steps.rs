@@ -1,7 +1,7 @@
 //! The rows of steps: each packed instruction with 32 lanes, how the time goes with the lanes that
 //! are on, each scalar instruction, and those that compare.
 
-use crate::{tame, time, Row, Timed, LT_OS};
+use crate::{sum, tame, time, Row, Timed, LT_OS};
 use ridgecrook_bench::plain_step;
 use ridgecrook_tests::assemble::{Encoding, LANES_16, LANES_32, LANES_8};
 use ridgecrook_tests::library;
@@ -128,14 +128,6 @@ impl Work {
             written ^ u64::from(machine.control) << 32
         })
     }
-}
-
-/// A number that depends on every byte of a register.
-fn sum(register: &[u8]) -> u64 {
-    let words = register.chunks_exact(8);
-    words.fold(0, |sum: u64, word| {
-        sum.wrapping_add(u64::from_le_bytes(word.try_into().expect("8 bytes")))
-    })
 }
 
 /// How a row's instructions differ from a register form with the length bits of 32 lanes.

@@ -2,6 +2,7 @@
 
 mod assembler;
 mod half;
+mod saved;
 mod show;
 mod state;
 mod text;

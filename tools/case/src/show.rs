@@ -1,17 +1,19 @@
 //! A state as text that `make` reads back: what is a remark stands behind `#`.
 
 use crate::half::to_decimal;
-use crate::state::{Input, State, GENERAL};
+use crate::saved::Version;
+use crate::state::{is_zero, Input, State, GENERAL};
 
 const BYTES_A_LINE: usize = 16;
 
 pub fn show(input: &Input) -> String {
-    let mut lines = vec![control(input.state.control)];
+    let mut lines = version(input.version);
+    lines.push(control(input.state.control));
     let pointer = input.state.pointer;
     lines.push(line("pointer", &format!("0x{pointer:X}"), ""));
     lines.extend(numbers(&input.state));
     for (number, lanes) in input.state.vectors.iter().enumerate() {
-        if lanes.iter().any(|&half| half != 0) {
+        if !is_zero(lanes) {
             lines.extend(vector(number, lanes));
         }
     }
@@ -26,6 +28,14 @@ fn line(name: &str, value: &str, remark: &str) -> String {
     match remark {
         "" => format!("{name:<9} {value}"),
         _ => format!("{name:<9} {value:<10} # {remark}"),
+    }
+}
+
+/// Version 1 is what `make` takes where no line says another.
+fn version(version: Version) -> Vec<String> {
+    match version {
+        Version::One => Vec::new(),
+        Version::Two => vec![line("version", "2", "")],
     }
 }
 
@@ -121,7 +131,7 @@ fn vector(number: usize, lanes: &[u16; 32]) -> Vec<String> {
 fn zeros(state: &State) -> Vec<String> {
     let of = |registers: &[u64]| registers.iter().filter(|&&value| value == 0).count();
     let vectors = state.vectors.iter();
-    let zero_vectors = vectors.filter(|lanes| lanes.iter().all(|&half| half == 0));
+    let zero_vectors = vectors.filter(|lanes| is_zero(lanes));
     let counts = [
         (of(&state.general), 16, "general registers"),
         (of(&state.masks), 8, "masks"),

@@ -2,6 +2,7 @@
 
 use crate::assembler::assemble;
 use crate::half;
+use crate::saved::Version;
 use crate::state::{Input, CODE_LIMIT, GENERAL, MEMORY_LIMIT};
 use std::collections::HashMap;
 
@@ -73,6 +74,7 @@ impl Reader {
             ("code", None) => self.code(bytes(rest)?),
             ("asm", None) => self.code(assemble(rest)?),
             ("memory", place) => self.memory(place, rest),
+            ("version", None) => self.version(rest),
             ("control", None) => self.control(rest),
             (name, place) if name.starts_with("zmm") => self.vector(name, place, rest),
             (name, None) => self.number(name, rest),
@@ -99,6 +101,15 @@ impl Reader {
             true => Err(format!("the code is longer than {CODE_LIMIT} bytes")),
             false => Ok(()),
         }
+    }
+
+    fn version(&mut self, rest: &str) -> Outcome {
+        self.set_once("version")?;
+        let version = Version::of(number(rest)?);
+        self.input.version = version.ok_or(format!(
+            "a saved state has version 1 or 2, and {rest} is neither"
+        ))?;
+        Ok(())
     }
 
     fn control(&mut self, rest: &str) -> Outcome {
@@ -239,8 +250,8 @@ fn register(name: &str, letters: &str, count: usize) -> Option<usize> {
 
 fn unknown(name: &str) -> String {
     format!(
-        "`{name}` is unknown: a line begins with control, pointer, rax to r15, k0 to k7, \
-         zmm0 to zmm31, code, asm or memory"
+        "`{name}` is unknown: a line begins with version, control, pointer, rax to r15, \
+         k0 to k7, zmm0 to zmm31, code, asm or memory"
     )
 }
 
