@@ -15,29 +15,37 @@ use Rattle.forms.specs.Saved.{sizeAt, Load, load}
 use Rattle.command.specs.Command.{badInput, linesFrom, blank, codeLength, codeOf, memoryOf, isLaidOut, isGood, printed}
 use Rattle.command.proofs.Going.{to-end}
 
-pub two-bytes : (input : List ℕ) (n : ℕ) → n ≡ sizeAt input → n + 2 ≤ length input → getD input n 0 * 256 + getD input (n + 1) 0 ≡ codeLength input
+pub two-bytes : (input : List ℕ) (n : ℕ) → n ≡ sizeAt input → n + 2 ≤ length input
+    → getD input n 0 * 256 + getD input (n + 1) 0 ≡ codeLength input
 unfolding valueFrom
 two-bytes input n e h =
     let first : n < length input = omega arith in
     let second : suc n < length input = omega arith in
     rw (← e, add-one n, drop-cons input n 0 first, drop-cons input (suc n) 0 second) (omega arith)
 
-pub record LaidOut (input : List ℕ) : Type 0 where
-  pub head : sizeAt input + 2 ≤ length input
+-- what the layout tells, where b is the size of the saved form
+pub record LaidOut (input : List ℕ) (b : ℕ) : Type 0 where
+  pub size : b ≡ sizeAt input
+  pub head : b + 2 ≤ length input
   pub code : codeLength input ≤ 4096
-  pub whole : sizeAt input + 2 + codeLength input ≤ length input
+  pub whole : b + 2 + codeLength input ≤ length input
 
 pub both : (a : Bool) {b : Bool} → (a && b) ≡ true → (a ≡ true) × (b ≡ true)
 both true e = (refl, e)
 both false e = absurd (false≢true e)
 
-pub laid-out : (input : List ℕ) → isLaidOut input ≡ true → LaidOut input
+pub laid-out : (input : List ℕ) (b : ℕ) → b ≡ sizeAt input → isLaidOut input ≡ true → LaidOut input b
 unfolding isLaidOut
-laid-out input e =
+laid-out input b size e =
     let three : _ = both _ e in
     let two : _ = both _ (three .0) in
     let one : _ = both _ (two .0) in
-    record { head = leb-true _ _ (one .0); code = leb-true _ _ (one .1); whole = leb-true _ _ (two .1) }
+    record {
+      size = size;
+      head = rw size (leb-true _ _ (one .0));
+      code = leb-true _ _ (one .1);
+      whole = rw size (leb-true _ _ (two .1));
+    }
 
 -- ---- what is printed, by the tests of the code
 
@@ -46,10 +54,10 @@ module _ (input : List ℕ) where
   unfolding printed isGood
   bad-layout e = rw e
 
-  module _ (e : isLaidOut input ≡ true) (b : ℕ) (is : b ≡ sizeAt input) (s : State) (n : ℕ)
+  module _ (e : isLaidOut input ≡ true) {b : ℕ} (L : LaidOut input b) (s : State) (n : ℕ)
       (l : record { number = n; state = s } ≡ load (take (b - 0) input) blank) where
     loads : record { number = n; state = s } ≡ load (take (sizeAt input) input) blank
-    loads = let z : b - 0 ≡ sizeAt input = omega arith in l ∙ rw z
+    loads = let z : b - 0 ≡ sizeAt input = omega (arith, L .size) in l ∙ rw z
 
     pub bad-load : (n ≡ 0 → ⊥) → printed input ≡ badInput
     unfolding printed isGood
@@ -63,5 +71,5 @@ module _ (input : List ℕ) where
     good-lines z r f =
         let size : b + 2 + r - (b + 2) ≡ r = omega arith in
         let state : load (take (sizeAt input) input) blank .state ≡ s = ap (λ (x : Load). x .state) (sym loads) in
-        rw (e, ← loads, eq-eqb n 0 z, size, to-end (b + 2 + r) input, f, is)
+        rw (e, ← loads, eq-eqb n 0 z, size, to-end (b + 2 + r) input, f, L .size)
         (ap (λ (x : State). linesFrom (length (codeOf input)) (memoryOf input) (codeOf input) x 0) state)

@@ -11,6 +11,7 @@ use lib.ListN.{length, drop, length-append, length-drop, length-take}
 use Rattle.machine.specs.State.{State, Stepped}
 use Rattle.machine.specs.Step.{step, run}
 use Rattle.machine.proofs.Answers.{lengths}
+use Rattle.forms.specs.Saved.{sizeAt}
 use Rattle.command.specs.Command.{stepLine, stopLine, linesFrom, badInput, codeOf, memoryOf, startOf, isLaidOut, isGood, printed}
 use Rattle.command.specs.Command.{room}
 use Rattle.command.specs.Runs.{ended, stopped, done, Runs, Prints}
@@ -86,9 +87,9 @@ runs : (input : List ℕ) → isGood input ≡ true → Runs (memoryOf input) (c
 unfolding printed
 runs input e = rw e (runs-from (memoryOf input) (codeOf input) (length (codeOf input)) (startOf input) 0 (omega arith))
 
-good-laid-out : (input : List ℕ) → isGood input ≡ true → LaidOut input
+good-laid-out : (input : List ℕ) → isGood input ≡ true → LaidOut input (sizeAt input)
 unfolding isGood
-good-laid-out input e = laid-out input (both (isLaidOut input) e .0)
+good-laid-out input e = laid-out input (sizeAt input) refl (both (isLaidOut input) e .0)
 
 fits : (input : List ℕ) → length (printed input) ≤ room
 unfolding printed badInput

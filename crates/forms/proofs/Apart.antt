@@ -224,12 +224,12 @@ module _ (bytes : List ℕ) (passed : NoneHolds (sourceConditions bytes)) where
     unfolding content
     content-back =
         let behind : drop 5 bytes ≡ take 204 (drop 5 bytes) ++ drop fileAt bytes =
-            sym (rw (← drop-drop 204 5 bytes) (take-append-drop 204 (drop 5 bytes))) in
+        sym (rw (← drop-drop 204 5 bytes) (take-append-drop 204 (drop 5 bytes))) in
         ap₂ _∷_ (sym byte) (ap₂ _++_ numbers-back file-back ∙ sym behind) ∙ sym (drop-cons bytes 4 0 (omega (arith, total)))
 
     pub bytes-back : savedForm version (stateIn bytes) ≡ bytes
     unfolding savedForm sizeAt
     bytes-back =
         let long : length (content version (stateIn bytes)) ≡ numberIn bytes 0 4 =
-            ap length content-back ∙ length-drop 4 bytes ∙ omega (arith, field) in
+        ap length content-back ∙ length-drop 4 bytes ∙ omega (arith, field) in
         rw (long, number-back 0 4 (lit≤ tt), content-back) (take-append-drop 4 bytes)

@@ -135,9 +135,10 @@ module _ (file : List ℕ) (long : length file ≡ 2048) where
   unfolding pack
   register-there i h e =
       let at : drop (placeOf (wordIn (pack file)) i) (pack file) ≡ drop (sumTo i (λ j. cond (is-present j) 64 0)) ones =
-          rw (word-there, place i (omega arith)) (behind 4 (sumTo i (λ j. cond (is-present j) 64 0)) (big 4 (presence file)) ones (length-big 4 (presence file))) in
+      rw (word-there, place i (omega arith))
+      (behind 4 (sumTo i (λ j. cond (is-present j) 64 0)) (big 4 (presence file)) ones (length-big 4 (presence file))) in
       let there : take 64 (drop (sumTo i (λ j. cond (is-present j) 64 0)) ones) ≡ register file i =
-          rw e at (joined-part (λ i. ifPresent (register file i)) (λ i. cond (is-present i) 64 0) 32 i one-size h) in
+      rw e at (joined-part (λ i. ifPresent (register file i)) (λ i. cond (is-present i) 64 0) 32 i one-size h) in
       ap (take 64) at ∙ there
 
   pack-unpack : unpack (pack file) ≡ file

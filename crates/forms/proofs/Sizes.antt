@@ -58,7 +58,8 @@ save-passed : (n : ℕ) (s : State) (target : List ℕ) → save n s target .num
 unfolding save
 save-passed n s target done = holds-none (saveConditions n s target) (save-non-zero n s target) done
 
-saved-size : (n : ℕ) (s : State) → noVersion n ≡ false → wrongVectorFile s ≡ false → savedSize n (s .vectors) ≡ formSize (versionOf n) (s .vectors)
+saved-size : (n : ℕ) (s : State) → noVersion n ≡ false → wrongVectorFile s ≡ false
+    → savedSize n (s .vectors) ≡ formSize (versionOf n) (s .vectors)
 unfolding savedSize wrongVectorFile
 saved-size n s a b = rw (a, b)
 

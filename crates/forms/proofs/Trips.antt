@@ -51,7 +51,7 @@ pub save-after-load : SaveAfterLoad
 unfolding load loadConditions saveConditions wrongVectorFile
 save-after-load bytes target t small size done =
     let passed : NoneHolds (sourceConditions bytes) =
-        holds-none (loadConditions bytes t) (load-non-zero bytes t) done .1 in
+    holds-none (loadConditions bytes t) (load-non-zero bytes t) done .1 in
     let saves : NoneHolds (saveConditions (numberOf bytes) (stateIn bytes) target) = (
       named bytes passed,
       (unequal _ 2048 (vectors-long bytes passed), (room-again bytes target passed small size, (low-control bytes passed, tt))),
@@ -73,7 +73,7 @@ pub moved : (n : ℕ) (bytes target : List ℕ) → move n bytes target .number 
 unfolding move moveConditions
 moved n bytes target done =
     let passed : NoneHolds (moveConditions n bytes target) =
-        holds-none (moveConditions n bytes target) (move-non-zero n bytes target) done in
+    holds-none (moveConditions n bytes target) (move-non-zero n bytes target) done in
     let both = none-append ((noVersion n, 10) ∷ sourceConditions bytes) _ passed in
     record { asked = both .0 .0; source = both .0 .1; room = both .1 .0 }
 

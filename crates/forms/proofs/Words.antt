@@ -58,5 +58,13 @@ pub word-of-bits : (n w : ℕ) → wordOf n (isSet w) ≡ w % 2 ^ n
 word-of-bits zero w = omega (arith, no-digits (isSet w))
 word-of-bits (suc n) w =
     let e : suc n ≡ 1 + n = omega arith in
-    rw (← add-one n, binary-next n (digit (isSet w)), word-of-bits n w, as-digit (w / 2 ^ n % 2) (omega arith), add-one n, e, mod-pow-add w 1 n)
+    rw (
+      ← add-one n,
+      binary-next n (digit (isSet w)),
+      word-of-bits n w,
+      as-digit (w / 2 ^ n % 2) (omega arith),
+      add-one n,
+      e,
+      mod-pow-add w 1 n,
+    )
     (omega arith)

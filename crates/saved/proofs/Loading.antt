@@ -17,7 +17,8 @@ use Rattle.forms.specs.Version.{isPacked, versionOf, noVersion}
 use Rattle.forms.specs.Numbers.{valueFrom, numberIn}
 use Rattle.forms.specs.File.{packedSize, fileForm}
 use Rattle.forms.specs.Form.{fileAt, file, loadedState}
-use Rattle.forms.specs.Saved.{sizeAt, numberOf, versionIn, stateIn, wrongSize, wrongLength, wrongFile, sourceConditions, loadConditions, load}
+use Rattle.forms.specs.Saved.{sizeAt, numberOf, versionIn, stateIn, wrongSize, wrongLength, wrongFile, sourceConditions}
+use Rattle.forms.specs.Saved.{loadConditions, load}
 use Rattle.forms.proofs.Apart.{equal, unequal, registers-in, file-size, vectors-long}
 use Rattle.forms.proofs.Answered.{load-done, load-refused}
 use Rattle.forms.proofs.Refusals.{source-non-zero}
@@ -56,6 +57,13 @@ lentFile bytes = take (length bytes - 209) (drop 209 bytes)
 
 pub file-lent : (bytes : List ℕ) → lentFile bytes ≡ drop fileAt bytes
 file-lent bytes = take-all (length bytes - 209) (drop 209 bytes) (omega (arith, length-drop 209 bytes))
+
+-- a form, but for its control word
+pub record Right (bytes : List ℕ) : Type 0 where
+  pub named : noVersion (numberOf bytes) ≡ false
+  pub size : wrongSize bytes ≡ false
+  pub field : wrongLength bytes ≡ false
+  pub file : wrongFile bytes ≡ false
 
 module _ (bytes : List ℕ) where
   by-size : wrongSize bytes ≡ true → 10 ≡ firstOf (sourceConditions bytes) 0
@@ -104,25 +112,27 @@ module _ (bytes : List ℕ) where
         let d : wrongFile bytes ≡ true = wrong-lent e ∙ h in
         sym (pick 10 (noVersion (numberOf bytes)) (pick 10 (wrongSize bytes) (pick 10 (wrongLength bytes) (rw d))))
 
-    -- what the tests before the last have shown
-    module _ {n k : ℕ} {w : Bool} (asked : noVersion (numberOf bytes) ≡ false) (en : n ≡ fileForm packed .size (lentFile bytes))
-        (hn : length bytes ≡ 209 + n) (ek : k ≡ sizeAt bytes) (hk : k ≡ length bytes) (ew : w ≡ fileForm packed .wrong (lentFile bytes))
-        (hw : w ≡ false) {x : ℕ} (control : x ≡ numberIn bytes 5 4) where
-      right-size : wrongSize bytes ≡ false
-      unfolding wrongSize
-      right-size = unequal (length bytes) (fileAt + file (versionIn bytes) .size (drop fileAt bytes)) (omega (arith, en ∙ size-lent))
+    -- the four tests passed
+    pub right : {n k : ℕ} {w : Bool} → noVersion (numberOf bytes) ≡ false → n ≡ fileForm packed .size (lentFile bytes)
+        → length bytes ≡ 209 + n → k ≡ sizeAt bytes → k ≡ length bytes → w ≡ fileForm packed .wrong (lentFile bytes) → w ≡ false
+        → Right bytes
+    unfolding wrongSize wrongLength
+    right asked en hn ek hk ew hw =
+        record {
+          named = asked;
+          size = unequal (length bytes) (fileAt + file (versionIn bytes) .size (drop fileAt bytes)) (omega (arith, en ∙ size-lent));
+          field = unequal (sizeAt bytes) (length bytes) (sym ek ∙ hk);
+          file = wrong-lent ew ∙ hw;
+        }
 
-      right-length : wrongLength bytes ≡ false
-      unfolding wrongLength
-      right-length = unequal (sizeAt bytes) (length bytes) (sym ek ∙ hk)
+  module _ (R : Right bytes) {x : ℕ} (control : x ≡ numberIn bytes 5 4) where
+    pub high-control : 2 ^ 16 ≤ x → 2 ≡ firstOf (sourceConditions bytes) 0
+    unfolding sourceConditions highControlBit loadedState
+    high-control h = sym (rw (R .named, R .size, R .field, R .file, ← control, le-leb _ _ h))
 
-      pub high-control : 2 ^ 16 ≤ x → 2 ≡ firstOf (sourceConditions bytes) 0
-      unfolding sourceConditions highControlBit loadedState
-      high-control h = sym (rw (asked, right-size, right-length, wrong-lent ew ∙ hw, ← control, le-leb _ _ h))
-
-      pub is-form : x < 2 ^ 16 → 0 ≡ firstOf (sourceConditions bytes) 0
-      unfolding sourceConditions highControlBit loadedState
-      is-form h = sym (rw (asked, right-size, right-length, wrong-lent ew ∙ hw, ← control, lt-leb _ _ h))
+    pub is-form : x < 2 ^ 16 → 0 ≡ firstOf (sourceConditions bytes) 0
+    unfolding sourceConditions highControlBit loadedState
+    is-form h = sym (rw (R .named, R .size, R .field, R .file, ← control, lt-leb _ _ h))
 
 -- ---- what was read of a form that is right
 

@@ -56,7 +56,8 @@ module _ {file : List ℕ} {x i : ℕ} where
   pub word-fits : Marked file x i → {y : ℕ} {l : List ℕ} → i < 32 → l ≡ register file i → y ≡ cond (present l) 1 0 * 2 ^ i → x + y < 2 ^ 32
   word-fits M h g e =
       rw (next-word M g e)
-      (lt-of-lt-of-le (word-below (i + 1) (λ j. present (register file j))) (pow-le-pow-right {n = 2} (lit≤ tt) {i = i + 1} {j = 32} (omega arith)))
+      (lt-of-lt-of-le (word-below (i + 1) (λ j. present (register file j)))
+      (pow-le-pow-right {n = 2} (lit≤ tt) {i = i + 1} {j = 32} (omega arith)))
 
   pub one-marked : Marked file x i → {y : ℕ} {l : List ℕ} → i < 32 → l ≡ register file i → y ≡ cond (present l) 1 0 * 2 ^ i
       → Marked file (x + y) (i + 1)

@@ -52,6 +52,7 @@ module _ (n : ℕ) (bytes : List ℕ) where
     unfolding movedSize
     size-wrong h = rw (asked, ← answer, ne-eqb k 0 h)
 
-    pub size-there : {r : ℕ} {vectors : List ℕ} → k ≡ 0 → vectors ≡ stateIn bytes .vectors → r ≡ formSize (versionOf n) vectors → r ≡ movedSize n bytes
+    pub size-there : {r : ℕ} {vectors : List ℕ} → k ≡ 0 → vectors ≡ stateIn bytes .vectors
+        → r ≡ formSize (versionOf n) vectors → r ≡ movedSize n bytes
     unfolding movedSize
     size-there h v e = e ∙ rw (asked, ← answer, h, v)

@@ -73,7 +73,8 @@ module _ (file d : List ℕ) {p : List ℕ} {w : ℕ} (long : length file ≡ 20
   pub word-put : Putting file (p ++ drop 4 d) (p ++ drop 4 d) 4 0
   unfolding pack
   word-put =
-      let first : take 4 (pack file) ≡ p = take-at (big 4 (presence file)) (joined 32 (one file)) 4 (length-big 4 (presence file)) ∙ sym word in
+      let first : take 4 (pack file) ≡ p =
+      take-at (big 4 (presence file)) (joined 32 (one file)) 4 (length-big 4 (presence file)) ∙ sym word in
       record {
         within = omega arith;
         written = record {
@@ -103,7 +104,8 @@ module _ {file d l : List ℕ} {at i : ℕ} where
   pub next-room : Putting file d l at i → {r : List ℕ} → i < 32 → r ≡ register file i → at + length (ifPresent r) ≤ length l
   next-room P h g = rw g (omega (arith, ends P h, kept (P .written)))
 
-  pub one-put : Putting file d l at i → {r : List ℕ} → i < 32 → r ≡ register file i → {next : ℕ} {m : List ℕ} → next ≡ at + length (ifPresent r)
+  pub one-put : Putting file d l at i → {r : List ℕ} → i < 32 → r ≡ register file i → {next : ℕ} {m : List ℕ}
+      → next ≡ at + length (ifPresent r)
       → m ≡ take at l ++ (ifPresent r ++ drop (length (ifPresent r)) (drop at l)) → Putting file d m next (i + 1)
   unfolding pack
   one-put P h g {next} {m} e k =
@@ -111,12 +113,12 @@ module _ {file d l : List ℕ} {at i : ℕ} where
       let k : m ≡ take at l ++ (one file i ++ drop (length (one file i)) (drop at l)) = k ∙ rw g in
       let s : next - at ≡ length (one file i) = omega arith in
       let piece : one file i ≡ take (next - at) (drop at (pack file)) =
-          sym (rw (
-            s,
-            P .place,
-            behind 4 (length (joined i (one file))) (big 4 (presence file)) (joined 32 (one file)) (length-big 4 (presence file)),
-            length-joined i (one file),
-          ) (joined-part (one file) (λ n. length (one file n)) 32 i (λ n q. refl) h)) in
+      sym (rw (
+        s,
+        P .place,
+        behind 4 (length (joined i (one file))) (big 4 (presence file)) (joined 32 (one file)) (length-big 4 (presence file)),
+        length-joined i (one file),
+      ) (joined-part (one file) (λ n. length (one file n)) 32 i (λ n q. refl) h)) in
       record {
         within = omega arith;
         written = rw k (rw s at (more (P .written) next (one file i) (omega arith) (omega (arith, ends P h)) piece));
@@ -158,7 +160,8 @@ pub record Unpacking (l : List ℕ) (word : ℕ) (d m : List ℕ) (at i : ℕ) :
   pub room : length d ≡ 2048
   pub written : Written (unpack l) d m (64 * i)
 
-pub nothing-unpacked : (l : List ℕ) {word : ℕ} (d : List ℕ) → length d ≡ 2048 → length l ≡ packedSize l → word ≡ wordIn l → Unpacking l word d d 4 0
+pub nothing-unpacked : (l : List ℕ) {word : ℕ} (d : List ℕ) → length d ≡ 2048 → length l ≡ packedSize l → word ≡ wordIn l
+    → Unpacking l word d d 4 0
 nothing-unpacked l {word} d h size is =
     record {
       size = size;
@@ -183,7 +186,7 @@ module _ {l d m : List ℕ} {word at i : ℕ} where
       → Unpacking l word d (take (64 * i) m ++ (p ++ drop (64 * (i + 1) - 64 * i) (drop (64 * i) m))) next (i + 1)
   one-unpacked U h {next} {p} e k =
       let piece : p ≡ take (64 * (i + 1) - 64 * i) (drop (64 * i) (unpack l)) =
-          k ∙ rw (U .placed .is, U .read, lent-register (unpack l) i) (sym (unpack-register l (U .size) i h)) in
+      k ∙ rw (U .placed .is, U .read, lent-register (unpack l) i) (sym (unpack-register l (U .size) i h)) in
       record {
         size = U .size;
         read = U .read;

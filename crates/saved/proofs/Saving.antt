@@ -41,31 +41,38 @@ size-by-word v vectors h e k = k ∙ ap (λ (n : ℕ). fileAt + n) (file-size (i
 
 -- ---- the answer after each test
 
+-- what the tests have shown, where v and k are the version and the size that the code has come to
+pub record Shown (n : ℕ) (vectors : List ℕ) (v : Version) (k : ℕ) : Type 0 where
+  pub asked : noVersion n ≡ false
+  pub long : length vectors ≡ 2048
+  pub version : v ≡ versionOf n
+  pub size : k ≡ formSize v vectors
+
 module _ (n : ℕ) (s : State) (target : List ℕ) where
   pub no-such : noVersion n ≡ true → record { number = 10; target = target } ≡ save n s target
   unfolding saveConditions
   no-such e = sym (save-refused n s target 10 refl (rw e))
 
-  module _ (asked : noVersion n ≡ false) where
-    pub wrong-file : (length (s .vectors) ≡ 2048 → ⊥) → record { number = 1; target = target } ≡ save n s target
-    unfolding saveConditions wrongVectorFile
-    wrong-file h = sym (save-refused n s target 1 refl (rw (asked, ne-eqb _ _ h)))
+  pub wrong-file : noVersion n ≡ false → (length (s .vectors) ≡ 2048 → ⊥) → record { number = 1; target = target } ≡ save n s target
+  unfolding saveConditions wrongVectorFile
+  wrong-file e h = sym (save-refused n s target 1 refl (rw (e, ne-eqb _ _ h)))
 
-    module _ (long : length (s .vectors) ≡ 2048) {v : Version} (is : v ≡ versionOf n) {k : ℕ} (size : k ≡ formSize v (s .vectors)) where
-      pub wrong-total : (length target ≡ k → ⊥) → record { number = 1; target = target } ≡ save n s target
-      unfolding saveConditions wrongVectorFile wrongTarget
-      wrong-total h = sym (save-refused n s target 1 refl (rw (asked, long, ← is, ← size, ne-eqb _ _ h)))
+  module _ {v : Version} {k : ℕ} (S : Shown n (s .vectors) v k) where
+    pub wrong-total : (length target ≡ k → ⊥) → record { number = 1; target = target } ≡ save n s target
+    unfolding saveConditions wrongVectorFile wrongTarget
+    wrong-total h = sym (save-refused n s target 1 refl (rw (S .asked, S .long, ← S .version, ← S .size, ne-eqb _ _ h)))
 
-      pub high-control : length target ≡ k → 2 ^ 16 ≤ s .control → record { number = 2; target = target } ≡ save n s target
-      unfolding saveConditions wrongVectorFile wrongTarget highControlBit
-      high-control t h = sym (save-refused n s target 2 refl (rw (asked, long, ← is, ← size, eq-eqb _ _ t, le-leb _ _ h)))
+    pub high-control : length target ≡ k → 2 ^ 16 ≤ s .control → record { number = 2; target = target } ≡ save n s target
+    unfolding saveConditions wrongVectorFile wrongTarget highControlBit
+    high-control t h =
+        sym (save-refused n s target 2 refl (rw (S .asked, S .long, ← S .version, ← S .size, eq-eqb _ _ t, le-leb _ _ h)))
 
-      pub saved : {x : List ℕ} → length target ≡ k → s .control < 2 ^ 16 → x ≡ savedForm v s
-          → record { number = 0; target = x } ≡ save n s target
-      unfolding saveConditions wrongVectorFile wrongTarget highControlBit
-      saved t h e =
-          ap (λ (x : List ℕ). record { number = 0; target = x }) (e ∙ rw is)
-          ∙ sym (save-done n s target (rw (asked, long, ← is, ← size, eq-eqb _ _ t, lt-leb _ _ h)))
+    pub saved : {x : List ℕ} → length target ≡ k → s .control < 2 ^ 16 → x ≡ savedForm v s
+        → record { number = 0; target = x } ≡ save n s target
+    unfolding saveConditions wrongVectorFile wrongTarget highControlBit
+    saved t h e =
+        ap (λ (x : List ℕ). record { number = 0; target = x }) (e ∙ rw (S .version))
+        ∙ sym (save-done n s target (rw (S .asked, S .long, ← S .version, ← S .size, eq-eqb _ _ t, lt-leb _ _ h)))
 
 -- the size that is needed, by the same tests
 module _ (n : ℕ) (vectors : List ℕ) where
@@ -143,7 +150,7 @@ module _ (v : Version) (s : State) (d : List ℕ) (size : length d ≡ formSize 
       let enough : 209 ≤ length d = at-least v (s .vectors) d size in
       let n : length d - 4 ≡ length (content v s) = omega (arith, counted) in
       let tail : take (length d - 209) (drop 209 (savedForm v s)) ≡ file v .put (s .vectors) =
-          rw (file-there v s) (take-all (length d - 209) (file v .put (s .vectors)) (omega (arith, file-length v (s .vectors) d size))) in
+      rw (file-there v s) (take-all (length d - 209) (file v .put (s .vectors)) (omega (arith, file-length v (s .vectors) d size))) in
       let w0 = nothing (savedForm v s) d (length-saved v s ∙ sym size) in
       let w1 = number-put w0 4 (length d - 4) p (lit≤ tt) (omega (arith, enough)) (rw n (length-there v s)) hp in
       let w2 = number-put w1 5 b q (lit≤ tt) (omega (arith, enough)) (rw byte (version-there v s ∙ one-byte v)) hq in

@@ -125,7 +125,14 @@ pub fn save(
         return 2;
     }
     put_form(
-        target, form, word, vectors, masks, general, control, pointer,
+        target,
+        form,
+        word,
+        vectors,
+        masks,
+        general,
+        control,
+        pointer,
     );
     0
 }

@@ -1,50 +1,52 @@
+-- `saved::move_form` meets its contract: a load into a state of its own and a save, by the laws of Moving.antt.
 use mathlib.Core.Path.{refl, sym, _∙_}
-use Rattle.lists.proofs.Tables.{length-table}
-use Rattle.saved.proofs.Moving.{no-such, move-ends, move-saves}
 use borrow.Author.Needs.{needs}
+use Rattle.saved.proofs.Moving.{no-such, move-ends, move-saves}
 use Rattle.saved.proofs.move_form.Statement.{statement}
 use Rattle.saved.proofs.move_form.Tie as tie
-use Rattle.saved.proofs.move_form.Reads as reads
-use Rattle.saved.proofs.move_form.Lts as lts
-use Rattle.saved.proofs.load.Reads as load-reads
-use Rattle.saved.proofs.no_version.Reads as no-version-reads
-use Rattle.saved.proofs.save.Reads as save-reads
 
--- src/lib.rt:241:8
 no-version-requires : tie.Need-no-version-requires
 no-version-requires c κs = search needs
 
--- src/lib.rt:242:9
 returns : tie.Need-returns
-returns c = no-such (c .before .before .before .before .args .version) (c .before .before .before .before .args .source .now) (c .before .before .before .before .args .target .now) (sym (c .before .no-version .ensures) ∙ c .if1 .taken)
+returns c =
+    let start : tie.Start = c .before .before .before .before in
+    no-such (start .args .version) (start .args .source .now) (start .args .target .now)
+    (sym (c .before .no-version .ensures) ∙ c .if1 .taken)
 
--- src/lib.rt:251:9
 slice-aggregate-load : tie.Need-slice-aggregate-load
 slice-aggregate-load c = search needs
 
--- src/lib.rt:249:9
 load-requires : tie.Need-load-requires
 load-requires c κs = search needs
 
--- src/lib.rt:258:9
 returns-2 : tie.Need-returns-2
-returns-2 c = move-ends (c .before .before .before .before .before .before .before .before .before .before .before .before .args .version) (c .before .before .before .before .before .before .before .before .before .before .before .before .args .source .now) (c .before .before .before .before .before .before .before .before .before .before .before .before .args .target .now) _ (sym (c .before .before .before .before .before .before .before .before .before .no-version .ensures) ∙ c .before .before .before .before .before .before .before .before .if1 .left) refl (c .before .before .load .ensures) (c .if2 .taken)
+returns-2 c =
+    let start : tie.Start = c .before .before .before .before .before .before .before .before .before .before .before .before in
+    let if1 = c .before .before .before .before .before .before .before .before .if1 in
+    let no-version = c .before .before .before .before .before .before .before .before .before .no-version in
+    move-ends (start .args .version) (start .args .source .now) (start .args .target .now) _ (sym (no-version .ensures) ∙ if1 .left)
+    refl (c .before .before .load .ensures) (c .if2 .taken)
 
--- src/lib.rt:262:9
 slice-aggregate-save : tie.Need-slice-aggregate-save
 slice-aggregate-save c = search needs
 
--- src/lib.rt:260:5
 save-requires : tie.Need-save-requires
 save-requires c κs = search needs
 
--- src/lib.rt:238:1
 same-length : tie.Need-same-length
 same-length c = search needs
 
--- src/lib.rt:238:1
 returns-3 : tie.Need-returns-3
-returns-3 c = move-saves (c .before .before .before .before .before .before .before .before .before .before .before .before .before .before .before .before .before .before .before .args .version) (c .before .before .before .before .before .before .before .before .before .before .before .before .before .before .before .before .before .before .before .args .source .now) (c .before .before .before .before .before .before .before .before .before .before .before .before .before .before .before .before .before .before .before .args .target .now) _ (sym (c .before .before .before .before .before .before .before .before .before .before .before .before .before .before .before .before .no-version .ensures) ∙ c .before .before .before .before .before .before .before .before .before .before .before .before .before .before .before .if1 .left) refl (c .before .before .before .before .before .before .before .before .before .load .ensures) (c .before .before .before .before .before .before .before .if2 .left) (c .before .before .save .ensures)
+returns-3 c =
+    let far = c .before .before .before .before .before .before .before .before .before .before in
+    let start : tie.Start = far .before .before .before .before .before .before .before .before .before in
+    let if2 = c .before .before .before .before .before .before .before .if2 in
+    let load = c .before .before .before .before .before .before .before .before .before .load in
+    let if1 = far .before .before .before .before .before .if1 in
+    let no-version = far .before .before .before .before .before .before .no-version in
+    move-saves (start .args .version) (start .args .source .now) (start .args .target .now) _ (sym (no-version .ensures) ∙ if1 .left)
+    refl (load .ensures) (if2 .left) (c .before .before .save .ensures)
 
 pub move-form-spec : {M : Type 1} → statement M
 move-form-spec =

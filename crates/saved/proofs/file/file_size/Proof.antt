@@ -1,22 +1,17 @@
-use lib.Dec.{lit≤}
+-- `saved::file::file_size` meets its contract: by the one test.
 use mathlib.Core.Path.{refl}
-use Rattle.saved.proofs.Packed.{is-packed, is-whole}
 use borrow.Author.Needs.{needs}
+use lib.Dec.{lit≤}
+use Rattle.saved.proofs.Packed.{is-packed, is-whole}
 use Rattle.saved.proofs.file.file_size.Statement.{statement}
 use Rattle.saved.proofs.file.file_size.Tie as tie
-use Rattle.saved.proofs.file.file_size.Reads as reads
-use Rattle.saved.proofs.file.file_size.Lts as lts
-use Rattle.saved.proofs.packing.size_in.Reads as size-in-reads
 
--- src/file.rt:56:9
 size-in-requires : tie.Need-size-in-requires
 size-in-requires c κs = search needs
 
--- src/file.rt:56:9
 returns : tie.Need-returns
 returns c = rw (is-packed (c .before .before .before .args .packed) (c .before .if1 .taken)) (c .size-in .ensures)
 
--- src/file.rt:51:1
 returns-2 : tie.Need-returns-2
 returns-2 c = rw (is-whole (c .before .before .args .packed) (c .if1 .left)) (refl, lit≤ tt)
 

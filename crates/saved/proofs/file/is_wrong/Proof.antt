@@ -1,20 +1,15 @@
+-- `saved::file::is_wrong` meets its contract: by the one test.
 use mathlib.Core.Path.{refl}
 use Rattle.saved.proofs.Packed.{is-packed, is-whole}
 use Rattle.saved.proofs.file.is_wrong.Statement.{statement}
 use Rattle.saved.proofs.file.is_wrong.Tie as tie
-use Rattle.saved.proofs.file.is_wrong.Reads as reads
-use Rattle.saved.proofs.file.is_wrong.Lts as lts
-use Rattle.saved.proofs.packing.has_empty.Reads as has-empty-reads
 
--- src/file.rt:67:9
 has-empty-requires : tie.Need-has-empty-requires
 has-empty-requires c κs = rw (is-packed (c .before .before .args .packed) (c .if1 .taken)) at (c .before .before .pre)
 
--- src/file.rt:67:9
 returns : tie.Need-returns
 returns c = rw (is-packed (c .before .before .before .args .packed) (c .before .if1 .taken)) (c .has-empty .ensures)
 
--- src/file.rt:62:1
 returns-2 : tie.Need-returns-2
 returns-2 c = rw (is-whole (c .before .before .args .packed) (c .if1 .left)) refl
 

@@ -1,3 +1,4 @@
+-- `saved::packing::has_empty` meets its contract: before register i none is marked and all zero.
 use Prim.Native.Nat.{_-_}
 use mathlib.Core.Path.{sym, _∙_}
 use native.Mathlib.Omega.{arith}
@@ -5,11 +6,6 @@ use Rattle.saved.proofs.Loops.{next-placed, placed-most}
 use Rattle.saved.proofs.Packed.{packed-least, Full, nothing-full, full-stands, one-empty, one-full, all-full}
 use Rattle.saved.proofs.packing.has_empty.Statement.{statement}
 use Rattle.saved.proofs.packing.has_empty.Tie as tie
-use Rattle.saved.proofs.packing.has_empty.Reads as reads
-use Rattle.saved.proofs.packing.has_empty.Lts as lts
-use Rattle.saved.proofs.packing.is_empty.Reads as is-empty-reads
-use Rattle.saved.proofs.packing.size_of.Reads as size-of-reads
-use Rattle.saved.proofs.packing.word_in.Reads as word-in-reads
 
 abbrev Inv-loop : tie.InvT-loop
 Inv-loop part word at₀ i₀ at i = Full part word at i
@@ -17,43 +13,41 @@ Inv-loop part word at₀ i₀ at i = Full part word at i
 abbrev μ-loop : tie.MeasureT-loop
 μ-loop part word at₀ i₀ at i = 32 - i
 
--- src/packing.rt:152:9
 word-in-requires : tie.Need-word-in-requires Inv-loop μ-loop
 word-in-requires c κs = packed-least (c .before .args .part .now) (c .before .pre)
 
--- src/packing.rt:154:5
 loop-holds : tie.Need-loop-holds Inv-loop μ-loop
 loop-holds c = nothing-full _ (c .before .before .pre) (c .word-in .ensures)
 
--- src/packing.rt:155:12
 is-empty-requires : tie.Need-is-empty-requires Inv-loop μ-loop
-is-empty-requires c κs = (omega arith, c .before .loop .inv .read, c .before .loop .inv .placed .is, full-stands (c .before .loop .inv) (omega arith))
+is-empty-requires c κs = (
+  omega arith,
+  c .before .loop .inv .read,
+  c .before .loop .inv .placed .is,
+  full-stands (c .before .loop .inv) (omega arith),
+)
 
--- src/packing.rt:156:13
 returns : tie.Need-returns Inv-loop μ-loop
 returns c = one-empty (c .before .before .before .loop .inv) (omega arith) (sym (c .before .is-empty .ensures) ∙ c .if1 .taken)
 
--- src/packing.rt:158:19
 size-of-requires : tie.Need-size-of-requires Inv-loop μ-loop
 size-of-requires c κs = omega arith
 
--- src/packing.rt:158:14
 add-at : tie.Need-add-at Inv-loop μ-loop
-add-at c = omega (arith, placed-most (next-placed (c .before .before .before .before .loop .inv .placed) (omega arith) (c .size-of .ensures)))
+add-at c =
+    omega (arith, placed-most (next-placed (c .before .before .before .before .loop .inv .placed) (omega arith) (c .size-of .ensures)))
 
--- src/packing.rt:154:9
 add-i : tie.Need-add-i Inv-loop μ-loop
 add-i c = omega arith
 
--- src/packing.rt:154:5
 loop-less : tie.Need-loop-less Inv-loop μ-loop
 loop-less c = omega arith
 
--- src/packing.rt:154:5
 loop-again : tie.Need-loop-again Inv-loop μ-loop
-loop-again c = one-full (c .before .before .before .before .loop .inv) (omega arith) (sym (c .before .before .is-empty .ensures) ∙ c .before .if1 .left) (c .size-of .ensures)
+loop-again c =
+    one-full (c .before .before .before .before .loop .inv) (omega arith)
+    (sym (c .before .before .is-empty .ensures) ∙ c .before .if1 .left) (c .size-of .ensures)
 
--- src/packing.rt:148:1
 returns-2 : tie.Need-returns-2 Inv-loop μ-loop
 returns-2 c = all-full (c .before .loop .inv) (omega arith)
 

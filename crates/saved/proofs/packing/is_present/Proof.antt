@@ -1,3 +1,4 @@
+-- `saved::packing::is_present` meets its contract: after k turns the first k bytes are or-ed.
 use Prim.Native.Nat.{_-_, _≤_}
 use mathlib.Core.Path.{refl}
 use native.Mathlib.Omega.{arith}
@@ -6,8 +7,6 @@ use Rattle.lists.proofs.Filling.{Ored, or-none, or-more}
 use Rattle.saved.proofs.Loops.{present-is}
 use Rattle.saved.proofs.packing.is_present.Statement.{statement}
 use Rattle.saved.proofs.packing.is_present.Tie as tie
-use Rattle.saved.proofs.packing.is_present.Reads as reads
-use Rattle.saved.proofs.packing.is_present.Lts as lts
 
 abbrev Inv-loop : tie.InvT-loop
 Inv-loop register all₀ k₀ all k = (k ≤ 64) × Ored (λ j. getD register j 0) all k
@@ -15,29 +14,25 @@ Inv-loop register all₀ k₀ all k = (k ≤ 64) × Ored (λ j. getD register j 
 abbrev μ-loop : tie.MeasureT-loop
 μ-loop register all₀ k₀ all k = 64 - k
 
--- src/packing.rt:20:5
 loop-holds : tie.Need-loop-holds Inv-loop μ-loop
 loop-holds c = (omega arith, or-none)
 
--- src/packing.rt:21:21
 shared-slice-read-all : tie.Need-shared-slice-read-all Inv-loop μ-loop
 shared-slice-read-all c = omega (arith, c .before .before .before .pre)
 
--- src/packing.rt:20:9
 add-k : tie.Need-add-k Inv-loop μ-loop
 add-k c = omega arith
 
--- src/packing.rt:20:5
 loop-less : tie.Need-loop-less Inv-loop μ-loop
 loop-less c = omega arith
 
--- src/packing.rt:20:5
 loop-again : tie.Need-loop-again Inv-loop μ-loop
 loop-again c = (omega arith, or-more (c .before .before .loop .inv .1) refl)
 
--- src/packing.rt:15:1
 returns : tie.Need-returns Inv-loop μ-loop
-returns c = present-is (c .before .before .args .register .now) (c .before .before .pre) (c .before .loop .inv .1) (c .before .loop .inv .0) (omega arith)
+returns c =
+    present-is (c .before .before .args .register .now) (c .before .before .pre) (c .before .loop .inv .1) (c .before .loop .inv .0)
+    (omega arith)
 
 pub is-present-spec : {M : Type 1} → statement M
 is-present-spec =

@@ -1,11 +1,9 @@
+-- `saved::packing::size_by` meets its contract: after i turns `at` is where register i stands.
 use Prim.Native.Nat.{_-_}
 use native.Mathlib.Omega.{arith}
 use Rattle.saved.proofs.Loops.{Placed, first-placed, next-placed, last-placed, placed-most}
 use Rattle.saved.proofs.packing.size_by.Statement.{statement}
 use Rattle.saved.proofs.packing.size_by.Tie as tie
-use Rattle.saved.proofs.packing.size_by.Reads as reads
-use Rattle.saved.proofs.packing.size_by.Lts as lts
-use Rattle.saved.proofs.packing.size_of.Reads as size-of-reads
 
 abbrev Inv-loop : tie.InvT-loop
 Inv-loop word at₀ i₀ at i = Placed word at i
@@ -13,31 +11,24 @@ Inv-loop word at₀ i₀ at i = Placed word at i
 abbrev μ-loop : tie.MeasureT-loop
 μ-loop word at₀ i₀ at i = 32 - i
 
--- src/packing.rt:75:5
 loop-holds : tie.Need-loop-holds Inv-loop μ-loop
 loop-holds c = first-placed _
 
--- src/packing.rt:76:19
 size-of-requires : tie.Need-size-of-requires Inv-loop μ-loop
 size-of-requires c κs = omega arith
 
--- src/packing.rt:76:14
 add-at : tie.Need-add-at Inv-loop μ-loop
 add-at c = omega (arith, placed-most (next-placed (c .before .before .loop .inv) (omega arith) (c .size-of .ensures)))
 
--- src/packing.rt:75:9
 add-i : tie.Need-add-i Inv-loop μ-loop
 add-i c = omega arith
 
--- src/packing.rt:75:5
 loop-less : tie.Need-loop-less Inv-loop μ-loop
 loop-less c = omega arith
 
--- src/packing.rt:75:5
 loop-again : tie.Need-loop-again Inv-loop μ-loop
 loop-again c = next-placed (c .before .before .loop .inv) (omega arith) (c .size-of .ensures)
 
--- src/packing.rt:71:1
 returns : tie.Need-returns Inv-loop μ-loop
 returns c = (last-placed (c .before .loop .inv) (omega arith), placed-most (c .before .loop .inv))
 

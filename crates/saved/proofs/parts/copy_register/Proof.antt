@@ -1,3 +1,4 @@
+-- `saved::parts::copy_register` meets its contract: after k turns of either loop the first k bytes are copied.
 use Prim.Native.Nat.{_-_}
 use mathlib.Core.Path.{refl, sym, ap, _∙_}
 use native.Mathlib.Omega.{arith}
@@ -5,8 +6,6 @@ use lib.ListN.{getD}
 use Rattle.saved.proofs.Written.{Written, nothing, kept, stored, all}
 use Rattle.saved.proofs.parts.copy_register.Statement.{statement}
 use Rattle.saved.proofs.parts.copy_register.Tie as tie
-use Rattle.saved.proofs.parts.copy_register.Reads as reads
-use Rattle.saved.proofs.parts.copy_register.Lts as lts
 
 abbrev Inv-loop : tie.InvT-loop
 Inv-loop part register held₀ k₀ held k = Written register held₀ held k
@@ -20,59 +19,48 @@ Inv-loop2 part₀ register held k₀ part k = Written register part₀ part k
 abbrev μ-loop2 : tie.MeasureT-loop2
 μ-loop2 part₀ register held k₀ part k = 64 - k
 
--- src/parts.rt:96:5
 loop-holds : tie.Need-loop-holds Inv-loop μ-loop Inv-loop2 μ-loop2
 loop-holds c = nothing _ _ (c .pre .1)
 
--- src/parts.rt:97:19
 shared-slice-read-held : tie.Need-shared-slice-read-held Inv-loop μ-loop Inv-loop2 μ-loop2
 shared-slice-read-held c = omega (arith, c .before .before .before .pre .1)
 
--- src/parts.rt:97:9
 array-write-held : tie.Need-array-write-held Inv-loop μ-loop Inv-loop2 μ-loop2
 array-write-held c = omega arith
 
--- src/parts.rt:96:9
 add-k : tie.Need-add-k Inv-loop μ-loop Inv-loop2 μ-loop2
 add-k c = omega arith
 
--- src/parts.rt:96:5
 loop-less : tie.Need-loop-less Inv-loop μ-loop Inv-loop2 μ-loop2
 loop-less c = omega arith
 
--- src/parts.rt:96:5
 loop-again : tie.Need-loop-again Inv-loop μ-loop Inv-loop2 μ-loop2
 loop-again c = stored (c .before .before .loop .inv) 0 (omega arith) refl
 
--- src/parts.rt:99:5
 loop2-holds : tie.Need-loop2-holds Inv-loop μ-loop Inv-loop2 μ-loop2
 loop2-holds c = nothing _ _ (c .before .before .pre .1 ∙ sym (c .before .before .pre .0))
 
--- src/parts.rt:100:19
 array-read-part : tie.Need-array-read-part Inv-loop μ-loop Inv-loop2 μ-loop2
 array-read-part c = omega arith
 
--- src/parts.rt:100:9
 slice-write-part : tie.Need-slice-write-part Inv-loop μ-loop Inv-loop2 μ-loop2
 slice-write-part c = omega (arith, kept (c .before .loop2 .inv), c .before .before .before .before .pre .0)
 
--- src/parts.rt:99:9
 add-k-2 : tie.Need-add-k-2 Inv-loop μ-loop Inv-loop2 μ-loop2
 add-k-2 c = omega arith
 
--- src/parts.rt:99:5
 loop2-less : tie.Need-loop2-less Inv-loop μ-loop Inv-loop2 μ-loop2
 loop2-less c = omega arith
 
--- src/parts.rt:99:5
 loop2-again : tie.Need-loop2-again Inv-loop μ-loop Inv-loop2 μ-loop2
-loop2-again c = stored (c .before .loop2 .inv) 0 (omega (arith, c .before .before .before .before .pre .0)) (ap (λ l. getD l (c .before .loop2 .k) 0) (all (c .before .before .before .loop .inv) (omega arith)))
+loop2-again c =
+    let start = c .before .before .before .before in
+    stored (c .before .loop2 .inv) 0 (omega (arith, start .pre .0))
+    (ap (λ l. getD l (c .before .loop2 .k) 0) (all (c .before .before .before .loop .inv) (omega arith)))
 
--- src/parts.rt:91:1
 same-length : tie.Need-same-length Inv-loop μ-loop Inv-loop2 μ-loop2
 same-length c = kept (c .before .loop2 .inv)
 
--- src/parts.rt:91:1
 returns : tie.Need-returns Inv-loop μ-loop Inv-loop2 μ-loop2
 returns c = all (c .before .loop2 .inv) (omega (arith, c .before .before .before .before .pre .0))
 
