@@ -1,16 +1,20 @@
 -- The statements of specs/Refusals.antt: each number is `firstOf` of one list of conditions, each of which has a number that is not 0.
 -- Assumes nothing.
 use Prim.Native.Nat.{ℕ, suc}
-use mathlib.Core.List.{List}
-use mathlib.Core.Logic.{_≢_}
+use mathlib.Core.Path.{_≡_, refl}
+use mathlib.Core.Bool.{Bool, true, false, cond}
+use mathlib.Core.List.{List, [], _++_, append-nil}
+use mathlib.Core.Logic.{_≢_, inl, inr}
 use native.Mathlib.Omega.{arith}
 use borrow.Author.Tests.{ne-eqb}
 use Rattle.lists.specs.Lists.{firstOf}
 use Rattle.lists.proofs.First.{NonZero}
 use Rattle.machine.specs.State.{State}
 use Rattle.machine.proofs.First.{in-order}
-use Rattle.forms.specs.Saved.{saveConditions, save, sourceConditions, loadConditions, load, moveConditions, move}
-use Rattle.forms.specs.Refusals.{SaveRefusals, LoadRefusals, MoveRefusals}
+use Rattle.forms.specs.Version.{noVersion}
+use Rattle.forms.specs.Saved.{saveConditions, save, numberOf, wrongSize, wrongLength, sourceConditions, loadConditions, load}
+use Rattle.forms.specs.Saved.{moveConditions, move}
+use Rattle.forms.specs.Refusals.{SaveRefusals, LoadRefusals, MoveRefusals, NoForm, FormsFirst}
 
 abbrev no : {n : ℕ} → suc n ≢ 0
 no e = omega arith
@@ -46,4 +50,27 @@ unfolding move
 move-refusals n bytes target = (
   in-order (moveConditions n bytes target) (move-non-zero n bytes target),
   λ h. rw (ne-eqb (firstOf (moveConditions n bytes target) 0) 0 h),
+)
+
+-- ---- 10 before 2
+
+-- a condition before one that holds, where both have the same number
+pub pick : (k : ℕ) (a : Bool) {m : ℕ} → m ≡ k → cond a k m ≡ k
+pick k true e = refl
+pick k false e = e
+
+-- whatever follows them, the four conditions give 10
+ten : (bytes : List ℕ) (later : List (Bool × ℕ)) → NoForm bytes → firstOf (sourceConditions bytes ++ later) 0 ≡ 10
+unfolding sourceConditions
+ten bytes later (inl e) = rw e
+ten bytes later (inr (inl e)) = pick 10 (noVersion (numberOf bytes)) (rw e)
+ten bytes later (inr (inr (inl e))) = pick 10 (noVersion (numberOf bytes)) (pick 10 (wrongSize bytes) (rw e))
+ten bytes later (inr (inr (inr e))) =
+    pick 10 (noVersion (numberOf bytes)) (pick 10 (wrongSize bytes) (pick 10 (wrongLength bytes) (rw e)))
+
+pub forms-first : FormsFirst
+unfolding load loadConditions move moveConditions
+forms-first bytes h = (
+  λ s file. rw file (rw (append-nil (sourceConditions bytes)) at (ten bytes [] h)),
+  λ n target. pick 10 (noVersion n) (ten bytes _ h),
 )

@@ -1,12 +1,15 @@
 -- docs/RULES.md, R9.4 to R9.6 and R9.10: which answer a save, a load and a move give, and what a refusal leaves. The statements; their
 -- proofs are in proofs/Refusals.antt.
 use Prim.Native.Nat.{ℕ}
+use mathlib.Core.Bool.{true, false}
 use mathlib.Core.List.{List}
-use mathlib.Core.Logic.{_≢_}
+use mathlib.Core.Logic.{_⊎_, _≢_}
 use mathlib.Core.Path.{_≡_}
 use Rattle.machine.specs.State.{State}
+use Rattle.machine.specs.Step.{wrongVectorFile}
 use Rattle.machine.specs.Answers.{InOrder}
-use Rattle.forms.specs.Saved.{saveConditions, save, loadConditions, load, moveConditions, move}
+use Rattle.forms.specs.Version.{noVersion}
+use Rattle.forms.specs.Saved.{saveConditions, save, numberOf, wrongSize, wrongLength, wrongFile, loadConditions, load, moveConditions, move}
 
 -- R9.4, R9.6: of every save.
 abbrev pub SaveRefusals : Type 0
@@ -19,6 +22,16 @@ abbrev pub LoadRefusals : Type 0
 LoadRefusals =
     (bytes : List ℕ) (s : State)
     → InOrder (loadConditions bytes s) (load bytes s .number) × (load bytes s .number ≢ 0 → load bytes s .state ≡ s)
+
+-- R9.5: bytes that are no form, whatever their control word, are answered 10 before anything else is but a vector file to load into.
+abbrev pub NoForm : List ℕ → Type 0
+NoForm bytes =
+    (noVersion (numberOf bytes) ≡ true) ⊎ ((wrongSize bytes ≡ true) ⊎ ((wrongLength bytes ≡ true) ⊎ (wrongFile bytes ≡ true)))
+
+abbrev pub FormsFirst : Type 0
+FormsFirst =
+    (bytes : List ℕ) → NoForm bytes
+    → ((s : State) → wrongVectorFile s ≡ false → load bytes s .number ≡ 10) × ((n : ℕ) (target : List ℕ) → move n bytes target .number ≡ 10)
 
 -- R9.6, R9.10: of every move.
 abbrev pub MoveRefusals : Type 0

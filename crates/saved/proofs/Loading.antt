@@ -21,7 +21,7 @@ use Rattle.forms.specs.Saved.{sizeAt, numberOf, versionIn, stateIn, wrongSize, 
 use Rattle.forms.specs.Saved.{loadConditions, load}
 use Rattle.forms.proofs.Apart.{equal, unequal, registers-in, file-size, vectors-long}
 use Rattle.forms.proofs.Answered.{load-done, load-refused}
-use Rattle.forms.proofs.Refusals.{source-non-zero}
+use Rattle.forms.proofs.Refusals.{source-non-zero, pick}
 use Rattle.saved.proofs.Reading.{four-bytes}
 
 -- ---- the length field
@@ -36,11 +36,6 @@ unfolding sizeAt
 field-there l {x} h e = (rw (e .0), omega (arith, four-bytes x 4 (rw (length-take-le 4 l h) at (e .1)) (omega arith)))
 
 -- ---- whether the bytes are a form, after each test
-
--- a condition before one that holds, where both have the same number
-pick : (k : ℕ) (a : Bool) {m : ℕ} → m ≡ k → cond a k m ≡ k
-pick k true e = refl
-pick k false e = e
 
 differ : (a b : ℕ) → (a ≡ b → ⊥) → not (eqb a b) ≡ true
 differ a b h = ap not (ne-eqb a b h)
