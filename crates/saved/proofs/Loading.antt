@@ -22,7 +22,7 @@ use Rattle.forms.specs.Saved.{loadConditions, load}
 use Rattle.forms.proofs.Apart.{equal, unequal, registers-in, file-size, vectors-long}
 use Rattle.forms.proofs.Answered.{load-done, load-refused}
 use Rattle.forms.proofs.Refusals.{source-non-zero, pick}
-use Rattle.saved.proofs.Reading.{four-bytes}
+use Rattle.parts.proofs.Reading.{four-bytes}
 
 -- ---- the length field
 

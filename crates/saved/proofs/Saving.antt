@@ -24,7 +24,7 @@ use Rattle.forms.proofs.Files.{pack-size}
 use Rattle.forms.proofs.Places.{length-numbers, control-there, pointer-there, general-there, masks-there, length-content, length-saved}
 use Rattle.forms.proofs.Places.{length-there, version-there, numbers-there, file-there}
 use Rattle.forms.proofs.Answered.{save-done, save-refused}
-use Rattle.saved.proofs.Written.{Written, nothing, more, lent, all}
+use Rattle.parts.proofs.Written.{Written, nothing, more, lent, all}
 
 -- ---- the size, by the word
 

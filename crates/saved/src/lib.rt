@@ -10,10 +10,7 @@ ghost use Rattle.forms.specs.File.{presence, placeOf};
 ghost use Rattle.forms.specs.Form.{numbers, fileAt, savedForm, formSize};
 ghost use Rattle.forms.specs.Saved.{save, sizeAt, stateIn, sourceConditions, load, move, savedSize, movedSize};
 use forms::Version;
-
-mod file;
-mod packing;
-mod parts;
+use parts::file;
 
 // ---- the versions (R9.1)
 

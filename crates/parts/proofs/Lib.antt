@@ -1,0 +1,5 @@
+pub mod Written
+pub mod Reading
+pub mod Turns
+pub mod Loops
+pub mod Packed
