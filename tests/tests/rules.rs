@@ -88,15 +88,20 @@ fn block<'a>(section: &'a str, from: &str) -> &'a str {
     rest.split_once("```").expect("the end of a block").0
 }
 
+/// Both inputs, one in each version of the saved form.
 #[test]
-fn the_command_example() {
+fn the_command_examples() {
     let section = examples();
-    let mut shell = Command::new("sh");
-    shell.args(["-c", block(&section, "```sh\n")]);
-    let output = shell.current_dir(root()).output().expect("a shell");
-    assert_eq!(String::from_utf8_lossy(&output.stderr), "");
-    let printed = String::from_utf8_lossy(&output.stdout);
-    assert_eq!(printed, block(&section, "prints (R10.4, R10.5)\n\n```\n"));
+    let expected = block(&section, "prints (R10.4, R10.5)\n\n```\n");
+    let inputs: Vec<&str> = section.split("```sh\n").skip(1).collect();
+    assert_eq!(inputs.len(), 2);
+    for input in inputs {
+        let mut shell = Command::new("sh");
+        shell.args(["-c", input.split_once("```").expect("the end of a block").0]);
+        let output = shell.current_dir(root()).output().expect("a shell");
+        assert_eq!(String::from_utf8_lossy(&output.stderr), "");
+        assert_eq!(String::from_utf8_lossy(&output.stdout), expected);
+    }
 }
 
 /// The definition that the page explains stands so in its file.

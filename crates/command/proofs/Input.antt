@@ -6,8 +6,9 @@ use mathlib.Core.Bool.{Bool, true, false, _&&_, false≢true}
 use mathlib.Core.List.{List}
 use native.Mathlib.Numerals.{add-one}
 use native.Mathlib.Omega.{arith}
-use borrow.Author.Tests.{leb-true, eq-eqb, ne-eqb}
-use lib.ListN.{length, getD, take, drop}
+use borrow.Author.Tests.{leb-true, le-leb, lt-leb, eq-eqb, ne-eqb}
+use lib.Dec.{leb}
+use lib.ListN.{length, getD, take, drop, length-drop}
 use lib.Seq.{drop-cons}
 use Rattle.machine.specs.State.{State}
 use Rattle.forms.specs.Numbers.{valueFrom}
@@ -46,6 +47,28 @@ laid-out input b size e =
       code = leb-true _ _ (one .1);
       whole = rw size (leb-true _ _ (two .1));
     }
+
+-- ---- the layout, by the tests of the code, which knows b and the length r of the code
+
+module _ (input : List ℕ) {b : ℕ} (size : b ≡ sizeAt input) where
+  pub too-short : length input < b + 2 → isLaidOut input ≡ false
+  unfolding isLaidOut
+  too-short h = rw (← size, lt-leb (b + 2) _ h)
+
+  module _ (head : b + 2 ≤ length input) {r : ℕ} (code : r ≡ codeLength input) where
+    pub long-code : 4096 < r → isLaidOut input ≡ false
+    unfolding isLaidOut
+    long-code h = rw (← code, ← size, le-leb (b + 2) _ head, lt-leb r 4096 h)
+
+    by-rest : r ≤ 4096 → isLaidOut input ≡ (leb (b + 2 + r) (length input) && leb (length input - (b + 2 + r)) 32768)
+    unfolding isLaidOut
+    by-rest h = rw (← code, ← size, le-leb (b + 2) _ head, le-leb r 4096 h, length-drop)
+
+    pub cut-code : r ≤ 4096 → length input < b + 2 + r → isLaidOut input ≡ false
+    cut-code h k = rw (by-rest h, lt-leb _ _ k)
+
+    pub by-memory : r ≤ 4096 → b + 2 + r ≤ length input → isLaidOut input ≡ leb (length input - (b + 2 + r)) 32768
+    by-memory h k = rw (by-rest h, le-leb _ _ k)
 
 -- ---- what is printed, by the tests of the code
 

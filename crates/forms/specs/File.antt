@@ -8,7 +8,7 @@ use Rattle.lists.specs.Lists.{some, table, binary}
 use Rattle.evex.specs.Bits.{isSet}
 use Rattle.forms.specs.Numbers.{big, numberIn, joined}
 
--- How a vector file is written, and read back.
+-- R9.1: how a vector file is written, and read back.
 pub record FileForm : Type 0 where
   pub put : List ℕ → List ℕ
   pub get : List ℕ → List ℕ
@@ -22,10 +22,11 @@ whole = record { put = λ file. file; get = λ bytes. bytes; size = λ bytes. 20
 
 -- ---- R9.8: packed
 
--- register i of a file; the present ones
+-- register i of a file
 abbrev pub register : List ℕ → ℕ → List ℕ
 register file i = take 64 (drop (64 * i) file)
 
+-- some byte of it is not 0
 unfoldable pub present : List ℕ → Bool
 present bytes = some (λ b. not (eqb b 0)) bytes
 
@@ -76,7 +77,7 @@ hasEmpty bytes = some (isEmpty bytes) (table 32 (λ i. i))
 abbrev pub packed : FileForm
 packed = record { put = pack; get = unpack; size = packedSize; wrong = hasEmpty }
 
--- ---- either
+-- ---- R9.1: either
 
 unfoldable pub fileForm : Bool → FileForm
 fileForm true = packed

@@ -9,6 +9,8 @@ use Rattle.forms.specs.Version.{versionByte, isPacked}
 use Rattle.forms.specs.Numbers.{big, numberIn, registers}
 use Rattle.forms.specs.File.{FileForm, fileForm}
 
+-- ---- R9.1
+
 -- what stands between the version and the vector file
 unfoldable pub numbers : ℕ → ℕ → List ℕ → List ℕ → List ℕ
 numbers control pointer general masks = big 4 control ++ big 8 pointer ++ registers 16 general ++ registers 8 masks

@@ -4,6 +4,8 @@ use mathlib.Core.List.{List, [], _∷_, flatten}
 use lib.ListN.{getD, take, drop}
 use Rattle.lists.specs.Lists.{table}
 
+-- ---- R9.2
+
 -- a number in n bytes, the highest first
 unfoldable pub big : ℕ → ℕ → List ℕ
 big zero x = []

@@ -18,7 +18,7 @@ use Rattle.forms.specs.Form.{fileAt, file, savedForm, formSize, loadedSt
 unfoldable pub wrongTarget : Version → State → List ℕ → Bool
 wrongTarget v s target = not (eqb (length target) (formSize v (s .vectors)))
 
--- the conditions with their numbers
+-- R4.1: the conditions with their numbers
 unfoldable pub saveConditions : ℕ → State → List ℕ → List (Bool × ℕ)
 saveConditions n s target =
     (noVersion n, 10) ∷ (wrongVectorFile s, 1) ∷ (wrongTarget (versionOf n) s target, 1) ∷ (highControlBit s, 2) ∷ []
@@ -62,7 +62,7 @@ wrongLength bytes = not (eqb (sizeAt bytes) (length bytes))
 unfoldable pub wrongFile : List ℕ → Bool
 wrongFile bytes = file (versionIn bytes) .wrong (drop fileAt bytes)
 
--- the conditions with their numbers, of bytes that are read
+-- the conditions of bytes that are read
 unfoldable pub sourceConditions : List ℕ → List (Bool × ℕ)
 sourceConditions bytes =
     (noVersion (numberOf bytes), 10)
@@ -72,6 +72,7 @@ sourceConditions bytes =
     ∷ (highControlBit (stateIn bytes), 2)
     ∷ []
 
+-- R4.1: and of the state to load into
 unfoldable pub loadConditions : List ℕ → State → List (Bool × ℕ)
 loadConditions bytes s = (wrongVectorFile s, 1) ∷ sourceConditions bytes
 
@@ -88,6 +89,7 @@ load bytes s =
 
 -- ---- R9.10: moving, to the version that has a number
 
+-- R4.1: the conditions of the source stand before that of the target
 unfoldable pub moveConditions : ℕ → List ℕ → List ℕ → List (Bool × ℕ)
 moveConditions n bytes target =
     ((noVersion n, 10) ∷ sourceConditions bytes) ++ ((wrongTarget (versionOf n) (stateIn bytes) target, 1) ∷ [])

@@ -11,7 +11,7 @@ use Rattle.machine.specs.Step.{wrongVectorFile}
 use Rattle.forms.specs.Version.{noVersion}
 use Rattle.forms.specs.Saved.{save, load, move, numberOf}
 
--- A state that the machine's registers can hold (R1.4): what the round trip supposes of a state. Its vector file may have any size.
+-- R9.7: a state that the machine's registers can hold (R1.4), which is what the round trips suppose of a state. Its vector file may have any size.
 pub record Held (s : State) : Type 0 where
   pub masksCount : length (s .masks) ≡ 8
   pub masks : Each (λ m. m < 2 ^ 64) (s .masks)
@@ -19,6 +19,7 @@ pub record Held (s : State) : Type 0 where
   pub general : Each (λ g. g < 2 ^ 64) (s .general)
   pub pointer : s .pointer < 2 ^ 64
 
+-- R9.7: bytes
 abbrev pub Bytes : List ℕ → Type 0
 Bytes bytes = Each (λ b. b < 256) bytes
 

@@ -1,11 +1,13 @@
--- docs/RULES.md, R9.1: the versions of a saved form.
+-- docs/RULES.md, R9.1: the versions of a saved form, with a line for each in every column.
 use Prim.Native.Nat.{ℕ}
 use mathlib.Core.Bool.{Bool, true, false, cond, not}
 use lib.Dec.{eqb}
 use Rattle.forms.specs.declared.Version.{Version}
 use Rattle.forms.specs.declared.Version.the-variants.{One, Two}
 
--- its number, which stands in the form as its byte 4
+-- ---- R9.1
+
+-- its number, which is byte 4 of the form
 abbrev pub versionByte : Version → ℕ
 versionByte One = 1
 versionByte Two = 2

@@ -4,13 +4,13 @@ ghost use Prim.Native.Nat.{_≤_};
 ghost use lib.ListN.{length};
 ghost use mathlib.Core.Bool.{cond};
 ghost use Rattle.forms.specs.File.{presence, placeOf, fileForm};
+use crate::copy;
 use crate::packing::has_empty;
 use crate::packing::put_packed;
 use crate::packing::read_packed;
 use crate::packing::size_by;
 use crate::packing::size_in;
 use crate::packing::word_of;
-use crate::copy;
 
 // The word of a file, which is found once and then goes with it; 0 where it is not packed.
 pub fn file_word(packed: bool, vectors: &[u8]) -> u32
