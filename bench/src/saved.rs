@@ -19,22 +19,25 @@ const CALLS: usize = 16 * STATES;
 struct Program {
     save: fn(u32, &mut Machine, &mut [u8]) -> u32,
     load: fn(&mut [u8], &mut Machine) -> u32,
-    shift: fn(u32, &mut [u8], &mut [u8]) -> u32,
-    size: fn(u32, &mut [u8]) -> usize,
+    move_saved: fn(u32, &mut [u8], &mut [u8]) -> u32,
+    saved_size: fn(u32, &mut [u8]) -> usize,
+    moved_size: fn(u32, &mut [u8]) -> usize,
 }
 
 const PROGRAMS: [Program; 2] = [
     Program {
         save: library::save_version,
         load: library::load,
-        shift: library::move_saved,
-        size: library::saved_size,
+        move_saved: library::move_saved,
+        saved_size: library::saved_size,
+        moved_size: library::moved_size,
     },
     Program {
         save: |version, machine, target| plain_saved::save(version, machine, target),
         load: |saved, machine| plain_saved::load(saved, machine),
-        shift: |version, source, target| plain_saved::move_saved(version, source, target),
-        size: |version, vectors| plain_saved::saved_size(version, vectors),
+        move_saved: |version, source, target| plain_saved::move_saved(version, source, target),
+        saved_size: |version, vectors| plain_saved::saved_size(version, vectors),
+        moved_size: |version, source| plain_saved::moved_size(version, source),
     },
 ];
 
@@ -112,16 +115,25 @@ fn moves(program: Program, from: u32, to: u32, present: usize) -> Pass {
     let (mut sources, mut target) = (forms(from, present), target(to, present));
     Box::new(move || {
         written(&mut target, |place, target| {
-            (program.shift)(to, &mut sources[place], target)
+            (program.move_saved)(to, &mut sources[place], target)
         })
     })
 }
 
-fn sizes(program: Program, version: u32, present: usize) -> Pass {
+fn saved_sizes(program: Program, version: u32, present: usize) -> Pass {
     let mut states = states(present);
     Box::new(move || {
         time(CALLS, |place| {
-            (program.size)(version, &mut states[place % STATES].vectors) as u64
+            (program.saved_size)(version, &mut states[place % STATES].vectors) as u64
+        })
+    })
+}
+
+fn moved_sizes(program: Program, from: u32, to: u32, present: usize) -> Pass {
+    let mut sources = forms(from, present);
+    Box::new(move || {
+        time(CALLS, |place| {
+            (program.moved_size)(to, &mut sources[place % STATES]) as u64
         })
     })
 }
@@ -145,15 +157,23 @@ fn shares(name: &str, pass: fn(Program, u32, usize) -> Pass) -> [Row; 3] {
     })
 }
 
+/// A row for each of these counts of registers, from each version to the other.
+fn ways(name: &str, counts: &[usize], pass: fn(Program, u32, u32, usize) -> Pass) -> Vec<Row> {
+    let mut rows = Vec::new();
+    for (from, to) in [(1, 2), (2, 1)] {
+        for &present in counts {
+            let kind = format!("{from} to {to}, {present} registers");
+            rows.push(row(name, &kind, |program| pass(program, from, to, present)));
+        }
+    }
+    rows
+}
+
 pub fn rows() -> Vec<Row> {
     let mut rows = versions("save", saves);
     rows.extend(versions("load", loads));
-    for (from, to) in [(1, 2), (2, 1)] {
-        rows.extend([8, 32].map(|present| {
-            let kind = format!("{from} to {to}, {present} registers");
-            row("move", &kind, |program| moves(program, from, to, present))
-        }));
-    }
-    rows.extend(shares("saved_size", sizes));
+    rows.extend(ways("move", &[8, 32], moves));
+    rows.extend(shares("saved_size", saved_sizes));
+    rows.extend(ways("moved_size", &[8], moved_sizes));
     rows
 }

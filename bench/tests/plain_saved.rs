@@ -4,10 +4,10 @@
 use ridgecrook_bench::plain_saved::{load, move_saved, moved_size, save, saved_size};
 use ridgecrook_tests::compare::{failure, Comparison};
 use ridgecrook_tests::library;
-use ridgecrook_tests::machine::REGISTER_SIZE;
+use ridgecrook_tests::machine::Machine;
 use ridgecrook_tests::random::Random;
-use ridgecrook_tests::saving::{done, done_number, NO_VERSIONS};
-use ridgecrook_tests::second::saved::{LARGEST_SIZE, SMALLEST_SIZE};
+use ridgecrook_tests::saving::{compare_mixtures, done, done_number};
+use ridgecrook_tests::second::saved::VERSIONS;
 use ridgecrook_tests::transfer::{Call, Transfer, TransferOutcome};
 
 /// What the plain program answers and leaves, which is what the library does.
@@ -29,11 +29,16 @@ fn outcome(before: &Transfer) -> TransferOutcome {
     plain
 }
 
-/// A call that nothing refuses, with a state of which any registers are present.
-fn good(random: &mut Random, call: Call) -> Transfer {
-    let state = random.sparse_machine();
-    let held = random.one_of(&[1, 2]);
-    done(random, call, held, &state)
+/// Compares a call that nothing refuses.
+fn compare_done(
+    comparison: &mut Comparison<Transfer>,
+    random: &mut Random,
+    call: Call,
+    state: &Machine,
+) {
+    let held = random.one_of(&VERSIONS);
+    let outcome = comparison.case(&done(random, call, held, state));
+    assert_eq!(outcome.number, done_number(call, state), "{call}");
 }
 
 #[test]
@@ -42,7 +47,8 @@ fn calls_that_are_done() {
     let mut random = Random::seeded(10);
     for call in Call::ALL {
         for _ in 0..2_000 {
-            comparison.case(&good(&mut random, call));
+            let state = random.sparse_machine();
+            compare_done(&mut comparison, &mut random, call, &state);
         }
     }
     comparison.finish(20_000);
@@ -58,66 +64,15 @@ fn sets_of_registers() {
         for word in [ends, !ends] {
             let state = random.machine_with(word);
             for call in Call::ALL {
-                let held = random.one_of(&[1, 2]);
-                let expected = comparison.case(&done(&mut random, call, held, &state));
-                assert_eq!(expected.number, done_number(call, &state));
+                compare_done(&mut comparison, &mut random, call, &state);
             }
         }
     }
     comparison.finish(256 * 2 * 10);
 }
 
-/// Spoils a call in one way, which may not apply to it.
-fn spoil(random: &mut Random, transfer: &mut Transfer) {
-    let size = match random.within(0, 2) {
-        0 => random.within(0, LARGEST_SIZE as i32 + 64),
-        _ => transfer.bytes.len() as i32 + random.one_of(&[-64, -1, 1, 64]),
-    };
-    let size = size.max(0) as usize;
-    let any = random.bits() as u8;
-    let in_head = random.one_of(&[0, 1, 2, 3, 4, 4, 5, 6, 7, 8, 209, 210, 211, 212]);
-    let register = SMALLEST_SIZE + REGISTER_SIZE * random.within(0, 31) as usize;
-    match random.within(0, 6) {
-        0 => transfer.bytes.resize(size, any),
-        1 => transfer.target.resize(size, any),
-        2 => transfer.machine.vectors.resize(size, any),
-        3 => transfer.machine.control = random.bits() as u32,
-        4 => transfer.call = transfer.call.asking(random.one_of(&NO_VERSIONS)),
-        5 => {
-            if let Some(byte) = transfer.bytes.get_mut(in_head) {
-                *byte ^= 1 << random.within(0, 7);
-            }
-        }
-        _ => {
-            if let Some(bytes) = transfer.bytes.get_mut(register..register + REGISTER_SIZE) {
-                bytes.fill(0);
-            }
-        }
-    }
-}
-
-/// One to three things are wrong with a call, or look wrong; each answer that it has comes up.
 #[test]
-fn spoiled_calls() {
-    let mut comparison = Comparison::of(outcome, "plain: spoiled calls, seed 12");
-    let mut random = Random::seeded(12);
-    for call in Call::ALL {
-        let mut answers = [0_u32; 11];
-        for _ in 0..6_000 {
-            let mut transfer = good(&mut random, call);
-            for _ in 0..random.within(1, 3) {
-                spoil(&mut random, &mut transfer);
-            }
-            let number = comparison.case(&transfer).number as usize;
-            answers[number.min(10)] += 1;
-        }
-        let known: &[usize] = match call {
-            Call::SavedSize(_) | Call::MovedSize(_) => &[0, 10],
-            Call::Save => &[0, 1, 2],
-            _ => &[0, 1, 2, 10],
-        };
-        let rare = known.iter().find(|&&number| answers[number] < 50);
-        assert_eq!(rare, None, "{call}: {answers:?}");
-    }
-    comparison.finish(60_000);
+fn mixtures_agree() {
+    let comparison = Comparison::of(outcome, "plain: mixtures of calls and refusals, seed 12");
+    compare_mixtures(comparison, &mut Random::seeded(12), 60_000);
 }

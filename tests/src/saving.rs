@@ -1,17 +1,18 @@
 //! What the tests of saves, loads and moves share: states of which only some registers are present
 //! (R9.8), calls that are done and calls that are refused.
 
-use crate::compare::{failure, setting, Comparison};
+use crate::compare::{failure, log, setting, Comparison};
 use crate::library;
 use crate::machine::{Machine, REGISTER_SIZE};
 use crate::random::Random;
 use crate::second;
 use crate::second::saved::{form, size, FILE_AT, SMALLEST_SIZE, VERSIONS};
 use crate::transfer::{Call, Transfer, TransferOutcome};
+use std::collections::BTreeMap;
 
 const SEED: u64 = 20_240_302;
 
-/// Versions that there are not: neighbours, what is equal in 8 bits, and the bytes in another order.
+/// Versions that there are not: neighbours, what is equal in 8 bits, the bytes in another order.
 pub const NO_VERSIONS: [u32; 8] = [
     0,
     3,
@@ -72,6 +73,15 @@ impl Random {
         }
         machine.keep_registers(word);
         machine
+    }
+}
+
+/// The versions of the forms that a call is tried with. One that reads none is tried once.
+pub fn versions_held(call: Call) -> &'static [u32] {
+    if call.reads() {
+        &VERSIONS
+    } else {
+        &[1]
     }
 }
 
@@ -175,6 +185,39 @@ fn resize(random: &mut Random, bytes: &mut Vec<u8>) {
         _ => random.within(0, 2300) as usize,
     };
     bytes.resize(size, 0xA5);
+}
+
+/// Every call with every answer that it has; a size is counted as 11.
+const REACHED: [(&str, &[u32]); 6] = [
+    ("save", &[0, 1, 2]),
+    ("save_version", &[0, 1, 2, 10]),
+    ("load", &[0, 1, 2, 10]),
+    ("move", &[0, 1, 2, 10]),
+    ("saved_size", &[0, 11]),
+    ("moved_size", &[0, 11]),
+];
+
+/// Holds so many mixtures against the second program. In 10,000 or more, each of those answers
+/// comes up at least once in 200, and no other at all.
+pub fn compare_mixtures(mut comparison: Comparison<Transfer>, random: &mut Random, cases: u64) {
+    let mut counts = BTreeMap::new();
+    for _ in 0..cases {
+        let transfer = mixture(random);
+        let number = comparison.case(&transfer).number.min(11);
+        *counts.entry((transfer.call.name(), number)).or_insert(0) += 1;
+    }
+    comparison.finish(cases);
+    log(&format!("mixtures: {counts:?}"));
+    if cases >= 10_000 {
+        for (name, number) in REACHED
+            .iter()
+            .flat_map(|(name, all)| all.iter().map(|n| (*name, *n)))
+        {
+            let count = counts.remove(&(name, number)).unwrap_or(0);
+            assert!(count >= cases / 200, "{name} {number}: {count}");
+        }
+        assert!(counts.is_empty(), "other answers: {counts:?}");
+    }
 }
 
 /// Both programs answer with that number and leave everything as it was.

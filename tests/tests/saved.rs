@@ -9,15 +9,16 @@ use ridgecrook_tests::compare::Comparison;
 use ridgecrook_tests::library;
 use ridgecrook_tests::machine::{Machine, REGISTER_SIZE};
 use ridgecrook_tests::random::Random;
-use ridgecrook_tests::saving::{check_unchanged, compared, done, done_number, random, states};
+use ridgecrook_tests::saving::{
+    check_unchanged, compared, done, done_number, random, states, versions_held,
+};
 use ridgecrook_tests::second::saved::{form, LARGEST_SIZE, SMALLEST_SIZE, VERSIONS, WHOLE_SIZE};
 use ridgecrook_tests::transfer::{Call, Transfer};
 
 /// Holds each call with a state against the second program; none is refused.
 fn every_call(comparison: &mut Comparison<Transfer>, random: &mut Random, state: &Machine) {
     for call in Call::ALL {
-        let helds = if call.reads() { &VERSIONS[..] } else { &[1] };
-        for &held in helds {
+        for &held in versions_held(call) {
             let outcome = comparison.case(&done(random, call, held, state));
             assert_eq!(outcome.number, done_number(call, state), "{call}");
         }

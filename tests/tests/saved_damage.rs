@@ -1,6 +1,6 @@
 //! Damaged saved forms of both versions (R9.5, R9.10): each byte of the head, each size, words that
-//! do not fit the registers, registers that are marked as present and are all zero. Loads, moves and
-//! the sizes of moves, by library and second program.
+//! do not fit the registers, registers that are marked as present and are all zero. Loads, moves
+//! and the sizes of moves, by library and second program.
 
 use ridgecrook_tests::compare::Comparison;
 use ridgecrook_tests::machine::REGISTER_SIZE;
@@ -21,8 +21,8 @@ const READERS: [Call; 5] = [
 /// Present registers, four in each byte of the word.
 const WORD: u32 = 0x0F3C_55D1;
 
-/// How the readers answer, each to its own damaged form: for each number how often. A size that is
-/// not 0 counts as 0.
+/// How the readers answer, each to its own damaged form: for each number how often. Sizes are
+/// compared, not counted.
 #[derive(Default)]
 struct Answers([u64; 11]);
 
@@ -192,8 +192,8 @@ fn registers_that_are_marked_and_empty() {
                 transfer.bytes[6] = 0;
                 let place = random.within(0, 63) as usize;
                 transfer.bytes[at + place] = 1 << random.within(0, 7);
-                let done = comparison.case(&transfer).number;
-                assert_eq!(done != 0, call.asks_size());
+                let number = comparison.case(&transfer).number;
+                assert_eq!(number != 0, call.asks_size());
             }
         }
     }

@@ -2,14 +2,13 @@
 //! several at once, every size of a target and of a vector file, versions that there are not, and
 //! mixtures at random. All that is lent is as it was before.
 
-use ridgecrook_tests::compare::log;
 use ridgecrook_tests::random::Random;
 use ridgecrook_tests::saving::{
-    check_unchanged, compared, done, mixture, random, sizes, states, LARGE, NO_VERSIONS,
+    check_unchanged, compare_mixtures, compared, done, random, sizes, states, versions_held, LARGE,
+    NO_VERSIONS,
 };
 use ridgecrook_tests::second::saved::{size, FILE_AT, SMALLEST_SIZE, VERSIONS};
 use ridgecrook_tests::transfer::{Call, Transfer};
-use std::collections::BTreeMap;
 
 /// Something that calls for a refusal.
 struct Condition {
@@ -92,10 +91,7 @@ fn good(random: &mut Random, call: Call, held: u32) -> Transfer {
 /// The calls that are refused by numbers, with the versions that they read.
 fn refusing() -> impl Iterator<Item = (Call, u32)> {
     let calls = Call::ALL.into_iter().filter(|call| !call.asks_size());
-    calls.flat_map(|call| {
-        let helds = if call.reads() { &VERSIONS[..] } else { &[1] };
-        helds.iter().map(move |&held| (call, held))
-    })
+    calls.flat_map(|call| versions_held(call).iter().map(move |&held| (call, held)))
 }
 
 /// Each refusal alone, and of any several at once the first: neighbours are among them.
@@ -201,37 +197,8 @@ fn vector_files_of_every_size() {
     assert_eq!(refused, 6 * (2300 + LARGE.len() as u64));
 }
 
-/// Every call with every answer that it has; a size is counted as 11.
-const REACHED: [(&str, &[u32]); 6] = [
-    ("save", &[0, 1, 2]),
-    ("save_version", &[0, 1, 2, 10]),
-    ("load", &[0, 1, 2, 10]),
-    ("move", &[0, 1, 2, 10]),
-    ("saved_size", &[0, 11]),
-    ("moved_size", &[0, 11]),
-];
-
 #[test]
 fn mixtures_agree() {
-    let mut random = random();
-    let mut comparison = compared("mixtures of calls and refusals");
-    let mut counts = BTreeMap::new();
-    let cases = 3 * states();
-    for _ in 0..cases {
-        let transfer = mixture(&mut random);
-        let number = comparison.case(&transfer).number.min(11);
-        *counts.entry((transfer.call.name(), number)).or_insert(0) += 1;
-    }
-    comparison.finish(cases);
-    log(&format!("mixtures: {counts:?}"));
-    if cases >= 10_000 {
-        for (name, number) in REACHED
-            .iter()
-            .flat_map(|(name, all)| all.iter().map(|n| (*name, *n)))
-        {
-            let count = counts.remove(&(name, number)).unwrap_or(0);
-            assert!(count >= cases / 200, "{name} {number}: {count}");
-        }
-        assert!(counts.is_empty(), "other answers: {counts:?}");
-    }
+    let comparison = compared("mixtures of calls and refusals");
+    compare_mixtures(comparison, &mut random(), 3 * states());
 }

@@ -73,12 +73,15 @@ pub fn read(bytes: &[u8]) -> Result<Input, String> {
     if !rest.is_empty() {
         let (length, rest) = rest.split_first_chunk().ok_or("its code length is cut")?;
         let length = usize::from(u16::from_be_bytes(*length));
-        let parts = rest
-            .split_at_checked(length)
-            .filter(|_| length <= CODE_LIMIT);
+        if length > CODE_LIMIT {
+            return Err(format!(
+                "its code length is {length}, more than {CODE_LIMIT}"
+            ));
+        }
+        let held = rest.len();
+        let parts = rest.split_at_checked(length);
         (code, memory) = parts.ok_or(format!(
-            "its code length is {length}, of {} bytes that follow and at most {CODE_LIMIT}",
-            rest.len()
+            "its code length is {length}, but {held} bytes follow"
         ))?;
     }
     if memory.len() > MEMORY_LIMIT {

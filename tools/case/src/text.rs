@@ -105,7 +105,7 @@ impl Reader {
 
     fn version(&mut self, rest: &str) -> Outcome {
         self.set_once("version")?;
-        let version = Version::of(number(rest)?);
+        let version = number(rest).ok().and_then(Version::of);
         self.input.version = version.ok_or(format!(
             "a saved state has version 1 or 2, and {rest} is neither"
         ))?;

@@ -123,12 +123,17 @@ fn bad_code_and_memory() {
     for input in inputs("behind") {
         let end = due(&input).1 + 4;
         let large = [&input[..], &vec![0; 32_768 - 63][..]].concat();
+        taken(&with(&large, &[(end, 0x10), (end + 1, 0)]), "behind");
+        let beyond = [(end, 0x10), (end + 1, 1)];
+        let too_long = "its code length is 4097, more than 4096";
         for (bytes, what) in [
             (input[..end + 1].to_vec(), "its code length is cut"),
             (
                 with(&input, &[(end + 1, 71)]),
-                "its code length is 71, of 70 bytes that follow and at most 4096",
+                "its code length is 71, but 70 bytes follow",
             ),
+            (with(&large, &beyond), too_long),
+            (with(&input, &beyond), too_long),
             (large, "it has 32769 bytes of memory, more than 32768"),
         ] {
             refused(&bytes, "behind", what);

@@ -3,7 +3,7 @@
 use crate::process::{file, has_assembler, made, of_file, text, SIZE_1};
 
 /// Bad lines, each with a part of what is said against it.
-const BAD_LINES: [(&str, &str); 51] = [
+const BAD_LINES: [(&str, &str); 52] = [
     ("speed 5", "`speed` is unknown"),
     ("zmm32 1", "`zmm32` is unknown"),
     ("zmm01 1", "`zmm01` is unknown"),
@@ -27,7 +27,8 @@ const BAD_LINES: [(&str, &str); 51] = [
     ("version 0", "version 1 or 2, and 0 is neither"),
     ("version 3", "version 1 or 2, and 3 is neither"),
     ("version -1", "version 1 or 2, and -1 is neither"),
-    ("version two", "two is no number of 64 bits"),
+    ("version two", "version 1 or 2, and two is neither"),
+    ("version 1 2", "version 1 or 2, and 1 2 is neither"),
     ("version[1] 2", "takes no place in brackets"),
     ("control 0x10000", "bits 0 to 15"),
     ("control 1F80", "is no number of 64 bits"),

@@ -58,3 +58,14 @@ fn sets_of_registers() {
         assert_eq!(made("set-again", &text).0, input, "{set:08X}");
     }
 }
+
+/// As the help says: a state is shown and made in the other version, and a code length follows it.
+#[test]
+fn the_version_is_changed() {
+    let (whole, _) = made("changed", "k1 3\nzmm3 1\nzmm31[31] -0\n");
+    let small = packed(&whole[..SIZE_1]);
+    let text = format!("version 2\n{}", shown("changed", &whole[..SIZE_1]));
+    assert_eq!(made("changed", &text).0, [&small[..], &[0, 0]].concat());
+    let text = shown("changed", &small).replace("version   2", "version   1");
+    assert_eq!(made("changed", &text).0, whole);
+}
