@@ -284,10 +284,14 @@ ridgecrook_answer ridgecrook_step(uint8_t *vectors, size_t vectors_length, uint6
  *
  * Its size (R9.9) is RIDGECROOK_SAVED_SIZE in version 1. In version 2 it is 213 bytes and 64 more
  * for each register that is present: less than in version 1, or 4 bytes more if all 32 are. Where
- * other bytes stand behind a saved form, it ends at 4 plus the number in its first field (R9.13).
+ * other bytes stand behind a saved form, it ends at 4 plus the number in its first field (R9.13);
+ * in bytes that may be damaged that number may be anything, so hold it against
+ * RIDGECROOK_SAVED_LARGEST - 4 before adding.
+ *
+ * Libraries from before version 2 load version 1 alone.
  */
-#define RIDGECROOK_SAVED_SIZE 2257    /* the size of version 1 */
-#define RIDGECROOK_SAVED_LARGEST 2261 /* the largest size: a buffer for any saved form */
+#define RIDGECROOK_SAVED_SIZE 2257    /* of version 1: too small for version 2 with all registers */
+#define RIDGECROOK_SAVED_LARGEST 2261 /* of either version: a buffer that holds any saved form */
 
 /*
  * Saving, loading, and moving a saved form to another version. A target is lent at the exact size
@@ -322,7 +326,8 @@ ridgecrook_answer ridgecrook_step(uint8_t *vectors, size_t vectors_length, uint6
  * Bytes are not a saved form (R9.5) if one of these holds:
  *
  *   - byte 4 is neither 1 nor 2, or there is none
- *   - they are not as many as the version, and in version 2 the word at 209, asks for
+ *   - their number is not 2,257 in version 1, or in version 2 not 213 and 64 for each bit that is
+ *     set in the word at 209; less than 213 are never a saved form
  *   - the number in the first field is not that of the bytes behind it
  *   - in version 2, a register that is marked as present is all zero
  *
@@ -379,10 +384,10 @@ uint32_t ridgecrook_load(const uint8_t *saved, size_t saved_length, uint8_t *vec
 size_t ridgecrook_moved_size(uint32_t version, const uint8_t *source, size_t source_length);
 
 /*
- * Writes the state that a saved form holds in that version: the bytes are those that a load and a
- * save would give (R9.11). To the source's own version that is a copy; to the other version and
- * back again, the bytes are those of the source. The answer is the first of these that applies
- * (R9.10):
+ * Writes the state that `source` holds, in the version asked for: the bytes are those that a load
+ * and a save would give (R9.11). To the source's own version that is a copy; to the other version
+ * and back again, the bytes are those of the source. The answer is the first of these that applies
+ * (R9.10); the first two have one number, so a caller that is not sure of `version` looks at that:
  *
  *   RIDGECROOK_BAD_SAVED    there is no such version
  *   RIDGECROOK_BAD_SAVED    `source` is not a saved form

@@ -69,7 +69,7 @@ linesFrom (suc n) memory code s at =
 unfoldable pub blank : State
 blank = record { vectors = table 2048 (λ k. 0); masks = table 8 (λ k. 0); general = table 16 (λ k. 0); control = 0; pointer = 0 }
 
--- behind the saved form, which ends where its own length says (R9.13): how many bytes of code there are, the code, and memory to the end
+-- behind the saved form, which ends where its length field says (R9.13): how many bytes of code there are, the code, and memory to the end
 abbrev pub codeLength : List ℕ → ℕ
 codeLength input = numberIn input (sizeAt input) 2
 

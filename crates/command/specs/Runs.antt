@@ -1,13 +1,17 @@
--- docs/RULES.md, R10.3 to R10.6: what is printed, said by the machine's own `run` and with no limit on the number of steps; and that it
--- always fits. Proofs: proofs/Runs.antt.
+-- docs/RULES.md, R10.1 to R10.6: what is printed, said by the machine's own `run` and with no limit on the number of steps; that it always
+-- fits; and that either version of a saved form is taken. Proofs: proofs/Runs.antt and proofs/Takes.antt.
 use Prim.Native.Nat.{ℕ, _+_, _≤_, _<_}
 use mathlib.Core.Path.{_≡_}
 use mathlib.Core.Logic.{_≢_}
-use mathlib.Core.Bool.{true}
+use mathlib.Core.Bool.{true, false}
 use mathlib.Core.List.{List, [], _∷_, _++_, map}
 use lib.ListN.{length, drop}
 use Rattle.machine.specs.State.{State, Stepped}
-use Rattle.machine.specs.Step.{run}
+use Rattle.machine.specs.Step.{wrongVectorFile, highControlBit, run}
+use Rattle.forms.specs.declared.Version.{Version}
+use Rattle.forms.specs.Numbers.{big}
+use Rattle.forms.specs.Form.{savedForm}
+use Rattle.forms.specs.Trips.{Held}
 use Rattle.command.specs.Command.{stepLine, stopLine, codeOf, memoryOf, startOf, isGood, printed, room}
 
 -- R10.3: what each step is given, by its offset
@@ -43,3 +47,16 @@ pub record Prints : Type 0 where
   pub runs : (input : List ℕ) → isGood input ≡ true → Runs (memoryOf input) (codeOf input) (startOf input) 0 (printed input)
   -- what is printed for any input fits the room
   pub fits : (input : List ℕ) → length (printed input) ≤ room
+
+-- R10.1, R10.2: of input that is put together of a saved form, of whatever version, code and memory.
+pub record Taken (s : State) (code memory input : List ℕ) : Type 0 where
+  pub good : isGood input ≡ true
+  pub start : startOf input ≡ s
+  pub codeIs : codeOf input ≡ code
+  pub memoryIs : memoryOf input ≡ memory
+
+abbrev pub Takes : Type 0
+Takes =
+    (v : Version) (s : State) (code memory : List ℕ) → Held s → wrongVectorFile s ≡ false → highControlBit s ≡ false
+    → length code ≤ 4096 → length memory ≤ 32768
+    → Taken s code memory (savedForm v s ++ (big 2 (length code) ++ (code ++ memory)))

@@ -19,7 +19,7 @@ use Rattle.forms.specs.declared.Version.the-variants.{One, Two}
 use Rattle.forms.specs.Version.{versionByte, isPacked, versionOf, noVersion}
 use Rattle.forms.specs.Numbers.{big, valueFrom, numberIn, registers}
 use Rattle.forms.specs.Form.{numbers, fileAt, file, content, savedForm, formSize, loadedState}
-use Rattle.forms.specs.Saved.{sizeAt, numberOf, versionIn, stateIn, wrongSize, wrongLength, wrongFile, sourceConditions}
+use Rattle.forms.specs.Saved.{sizeAt, versionNumber, versionIn, stateIn, wrongSize, wrongLength, wrongFile, sourceConditions}
 use Rattle.forms.specs.Trips.{Held, Bytes}
 use Rattle.forms.proofs.Slices.{part-part, part-next, length-part, each-take, each-drop, each-part, each-from}
 use Rattle.forms.proofs.Numbers.{value-big, big-value, value-below}
@@ -65,7 +65,7 @@ module _ (v : Version) (s : State) (long : length (s .vectors) ≡ 2048) where
       → take n (drop (5 + at) (savedForm v s)) ≡ take n (drop at (numbers (s .control) (s .pointer) (s .general) (s .masks)))
   inside at n h = sym (part-part 5 204 at n (savedForm v s) h) ∙ ap (λ (l : List ℕ). take n (drop at l)) (numbers-there v s)
 
-  pub number-there : numberOf (savedForm v s) ≡ versionByte v
+  pub number-there : versionNumber (savedForm v s) ≡ versionByte v
   number-there =
       sym (getD-take 1 (drop 4 (savedForm v s)) 0 0 (lit≤ tt) ∙ getD-drop 4 (savedForm v s) 0 0) ∙ ap (λ (l : List ℕ). getD l 0 0)
       (version-there v s)
@@ -144,13 +144,13 @@ module _ (bytes : List ℕ) (passed : NoneHolds (sourceConditions bytes)) where
   abbrev version : Version
   version = versionIn bytes
 
-  pub named : noVersion (numberOf bytes) ≡ false
+  pub named : noVersion (versionNumber bytes) ≡ false
   unfolding sourceConditions
   named = passed .0
 
-  byte : numberOf bytes ≡ versionByte version
+  byte : versionNumber bytes ≡ versionByte version
   unfolding noVersion
-  byte = equal (numberOf bytes) (versionByte version) named
+  byte = equal (versionNumber bytes) (versionByte version) named
 
   total : length bytes ≡ fileAt + file version .size (drop fileAt bytes)
   unfolding sourceConditions wrongSize

@@ -5,7 +5,7 @@ use Prim.Native.Nat.{ℕ, zero, suc, _+_, _*_, _≤_, _<_, _^_}
 use mathlib.Core.Bool.{Bool, true, false, cond, not, _&&_}
 use mathlib.Core.Path.{_≡_, refl, sym, ap, ap₂, _∙_}
 use mathlib.Core.List.{List, [], _∷_, _++_}
-use native.Mathlib.Nat.{mod-eq-of-lt}
+use native.Mathlib.Nat.{mod-eq-of-lt, mul-comm}
 use native.Mathlib.Numerals.{add-one}
 use native.Mathlib.Omega.{arith}
 use borrow.Author.Tests.{not-false, eqb-true}
@@ -17,6 +17,7 @@ use Rattle.lists.proofs.Tests.{either, neither}
 use Rattle.lists.proofs.Tables.{table-equal, length-table, some-next}
 use Rattle.lists.proofs.Filling.{found-none, nowhere}
 use Rattle.evex.specs.Bits.{isSet}
+use Rattle.machine.specs.State.{registerAt}
 use Rattle.forms.specs.Numbers.{big, numberIn, joined}
 use Rattle.forms.specs.File.{FileForm, whole, register, present, ifPresent, presence, pack, sumTo, wordIn, placeOf, packedAt, zeros}
 use Rattle.forms.specs.File.{unpack, packedSize, isEmpty, hasEmpty, packed, fileForm}
@@ -90,9 +91,13 @@ behind n k xs ys h = sym (drop-drop k n (xs ++ ys)) ∙ ap (drop k) (drop-at xs 
 
 -- ---- a file, packed
 
+-- register i, as pieces of 64 bytes have it
+pub register-is : (file : List ℕ) (i : ℕ) → take 64 (drop (64 * i) file) ≡ register file i
+register-is file i = rw (mul-comm 64 i)
+
 module _ (file : List ℕ) (long : length file ≡ 2048) where
   register-size : (k : ℕ) → k < 32 → length (register file k) ≡ 64
-  register-size k h = length-part (64 * k) 64 file (omega arith)
+  register-size k h = length-part (registerAt k) 64 file (omega arith)
 
   abbrev is-present : ℕ → Bool
   is-present i = present (register file i)
@@ -143,7 +148,10 @@ module _ (file : List ℕ) (long : length file ≡ 2048) where
 
   pack-unpack : unpack (pack file) ≡ file
   unfolding unpack presence
-  pack-unpack = joined-equal 32 _ (register file) each ∙ even-cut 64 32 file ∙ take-all 2048 file (omega arith)
+  pack-unpack =
+      joined-equal 32 _ (λ i. take 64 (drop (64 * i) file)) (λ i h. each i h ∙ sym (register-is file i))
+      ∙ even-cut 64 32 file
+      ∙ take-all 2048 file (omega arith)
     where
       each : (i : ℕ) → i < 32 → cond (isSet (wordIn (pack file)) i) (packedAt (pack file) i) (zeros 64) ≡ register file i
       each i h = rw (ap (λ (w : ℕ). isSet w i) word-there ∙ word-bit 32 is-present i h) (go (is-present i) refl)
@@ -194,7 +202,7 @@ module _ (l : List ℕ) (size : length l ≡ packedSize l) where
 
   pub unpack-register : (i : ℕ) → i < 32 → register (unpack l) i ≡ unpacked i
   unfolding unpack
-  unpack-register = even-part 64 32 unpacked unpacked-size
+  unpack-register i h = sym (register-is (joined 32 unpacked) i) ∙ even-part 64 32 unpacked unpacked-size i h
 
   module _ (full : hasEmpty l ≡ false) where
     marked-present : (i : ℕ) → i < 32 → present (register (unpack l) i) ≡ isSet word i

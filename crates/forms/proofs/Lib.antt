@@ -10,3 +10,4 @@ pub mod Answered
 pub mod Refusals
 pub mod Trips
 pub mod Sizes
+pub mod Rows

@@ -12,7 +12,7 @@ use Rattle.lists.proofs.First.{NonZero}
 use Rattle.machine.specs.State.{State}
 use Rattle.machine.proofs.First.{in-order}
 use Rattle.forms.specs.Version.{noVersion}
-use Rattle.forms.specs.Saved.{saveConditions, save, numberOf, wrongSize, wrongLength, sourceConditions, loadConditions, load}
+use Rattle.forms.specs.Saved.{saveConditions, save, versionNumber, wrongSize, wrongLength, sourceConditions, loadConditions, load}
 use Rattle.forms.specs.Saved.{moveConditions, move}
 use Rattle.forms.specs.Refusals.{SaveRefusals, LoadRefusals, MoveRefusals, NoForm, FormsFirst}
 
@@ -63,10 +63,10 @@ pick k false e = e
 ten : (bytes : List ℕ) (later : List (Bool × ℕ)) → NoForm bytes → firstOf (sourceConditions bytes ++ later) 0 ≡ 10
 unfolding sourceConditions
 ten bytes later (inl e) = rw e
-ten bytes later (inr (inl e)) = pick 10 (noVersion (numberOf bytes)) (rw e)
-ten bytes later (inr (inr (inl e))) = pick 10 (noVersion (numberOf bytes)) (pick 10 (wrongSize bytes) (rw e))
+ten bytes later (inr (inl e)) = pick 10 (noVersion (versionNumber bytes)) (rw e)
+ten bytes later (inr (inr (inl e))) = pick 10 (noVersion (versionNumber bytes)) (pick 10 (wrongSize bytes) (rw e))
 ten bytes later (inr (inr (inr e))) =
-    pick 10 (noVersion (numberOf bytes)) (pick 10 (wrongSize bytes) (pick 10 (wrongLength bytes) (rw e)))
+    pick 10 (noVersion (versionNumber bytes)) (pick 10 (wrongSize bytes) (pick 10 (wrongLength bytes) (rw e)))
 
 pub forms-first : FormsFirst
 unfolding load loadConditions move moveConditions

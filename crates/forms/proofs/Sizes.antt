@@ -20,7 +20,7 @@ use Rattle.forms.specs.Version.{versionOf, noVersion}
 use Rattle.forms.specs.Numbers.{valueFrom}
 use Rattle.forms.specs.File.{fileForm}
 use Rattle.forms.specs.Form.{fileAt, file, savedForm, formSize}
-use Rattle.forms.specs.Saved.{wrongTarget, saveConditions, save, sizeAt, stateIn, sourceConditions, move, savedSize, movedSize}
+use Rattle.forms.specs.Saved.{wrongTarget, saveConditions, save, sizeAt, stateIn, sourceConditions, beforeTarget, sizeIf, savedSize, movedSize}
 use Rattle.forms.specs.Sizes.{FormSizes, SizesNeeded, FormsInFront}
 use Rattle.forms.proofs.Files.{pack-count}
 use Rattle.forms.proofs.Places.{length-content, length-saved}
@@ -68,7 +68,7 @@ size-given : (n : ℕ) (s : State) → savedSize n (s .vectors) ≢ 0 → (noVer
 unfolding savedSize wrongVectorFile
 size-given n s h = go (noVersion n) (not (eqb (length (s .vectors)) 2048)) h
   where
-    go : (a b : Bool) → firstOf ((a, 0) ∷ (b, 0) ∷ []) (formSize (versionOf n) (s .vectors)) ≢ 0 → (a ≡ false) × (b ≡ false)
+    go : (a b : Bool) → sizeIf (firstOf ((a, 10) ∷ (b, 1) ∷ []) 0) (formSize (versionOf n) (s .vectors)) ≢ 0 → (a ≡ false) × (b ≡ false)
     go true b k = absurd (k refl)
     go false true k = absurd (k refl)
     go false false k = (refl, refl)
@@ -76,16 +76,16 @@ size-given n s h = go (noVersion n) (not (eqb (length (s .vectors)) 2048)) h
 moved-size : (n : ℕ) (bytes : List ℕ) → noVersion n ≡ false → NoneHolds (sourceConditions bytes)
     → movedSize n bytes ≡ formSize (versionOf n) (stateIn bytes .vectors)
 unfolding movedSize
-moved-size n bytes a b = rw (none-holds ((noVersion n, 10) ∷ sourceConditions bytes) 0 (a, b))
+moved-size n bytes a b = rw (none-holds (beforeTarget n bytes) 0 (a, b))
 
-move-given : (n : ℕ) (bytes : List ℕ) → movedSize n bytes ≢ 0 → NoneHolds ((noVersion n, 10) ∷ sourceConditions bytes)
+move-given : (n : ℕ) (bytes : List ℕ) → movedSize n bytes ≢ 0 → NoneHolds (beforeTarget n bytes)
 unfolding movedSize
-move-given n bytes h = holds-none ((noVersion n, 10) ∷ sourceConditions bytes) ((λ e. omega arith), source-non-zero bytes) (go _ refl)
+move-given n bytes h = holds-none (beforeTarget n bytes) ((λ e. omega arith), source-non-zero bytes) (go _ refl)
   where
-    go : (k : ℕ) → firstOf ((noVersion n, 10) ∷ sourceConditions bytes) 0 ≡ k → k ≡ 0
+    go : (k : ℕ) → firstOf (beforeTarget n bytes) 0 ≡ k → k ≡ 0
     go k e = zero-or k e (eqb k 0) refl
       where
-        zero-or : (k : ℕ) → firstOf ((noVersion n, 10) ∷ sourceConditions bytes) 0 ≡ k → (b : Bool) → eqb k 0 ≡ b → k ≡ 0
+        zero-or : (k : ℕ) → firstOf (beforeTarget n bytes) 0 ≡ k → (b : Bool) → eqb k 0 ≡ b → k ≡ 0
         zero-or k e true f = eqb-true k 0 f
         zero-or k e false f = absurd (h (rw (e, f)))
 
@@ -114,7 +114,7 @@ sizes-needed = (
           equal (length target) _ (M .room) ∙ sym size,
         )),
     (λ h.
-        let given : NoneHolds ((noVersion n, 10) ∷ sourceConditions bytes) = move-given n bytes (h .0) in
+        let given : NoneHolds (beforeTarget n bytes) = move-given n bytes (h .0) in
         let size : movedSize n bytes ≡ formSize (versionOf n) (stateIn bytes .vectors) = moved-size n bytes (given .0) (given .1) in
         ap (λ r. r .number) (move-goes n bytes target (record {
           asked = given .0;

@@ -16,9 +16,9 @@ use Rattle.machine.specs.Step.{wrongVectorFile, highControlBit}
 use Rattle.forms.specs.declared.Version.{Version}
 use Rattle.forms.specs.Version.{versionByte, versionOf, noVersion}
 use Rattle.forms.specs.Form.{savedForm, formSize}
-use Rattle.forms.specs.Saved.{wrongTarget, saveConditions, Save, save, numberOf, versionIn, stateIn, sourceConditions, loadConditions}
-use Rattle.forms.specs.Saved.{Load, load, moveConditions, move, saveOf}
-use Rattle.forms.specs.Trips.{Held, Bytes, LoadAfterSave, SaveAfterLoad, MoveIsSaveAfterLoad, MoveAndBack, MoveCopies}
+use Rattle.forms.specs.Saved.{wrongTarget, saveConditions, Save, save, versionNumber, versionIn, stateIn, sourceConditions, loadConditions}
+use Rattle.forms.specs.Saved.{Load, load, beforeTarget, moveConditions, move, saveOf}
+use Rattle.forms.specs.Trips.{Held, Bytes, LoadAfterSave, SaveAfterLoad, MoveIsSaveAfterLoad, LoadAfterMove, MoveAndBack, MoveCopies}
 use Rattle.forms.proofs.Places.{length-saved}
 use Rattle.forms.proofs.Apart.{equal, unequal, state-back, source-right, named, low-control, vectors-long, held, bytes-back}
 use Rattle.forms.proofs.Answered.{save-done, load-done, move-done, move-refused}
@@ -52,13 +52,13 @@ unfolding load loadConditions saveConditions wrongVectorFile
 save-after-load bytes target t small size done =
     let passed : NoneHolds (sourceConditions bytes) =
     holds-none (loadConditions bytes t) (load-non-zero bytes t) done .1 in
-    let saves : NoneHolds (saveConditions (numberOf bytes) (stateIn bytes) target) = (
+    let saves : NoneHolds (saveConditions (versionNumber bytes) (stateIn bytes) target) = (
       named bytes passed,
       (unequal _ 2048 (vectors-long bytes passed), (room-again bytes target passed small size, (low-control bytes passed, tt))),
     ) in
-    ap (λ (l : Load). save (numberOf bytes) (l .state) target) (load-done bytes t done)
-    ∙ save-done (numberOf bytes) (stateIn bytes) target
-    (none-holds (saveConditions (numberOf bytes) (stateIn bytes) target) 0 saves)
+    ap (λ (l : Load). save (versionNumber bytes) (l .state) target) (load-done bytes t done)
+    ∙ save-done (versionNumber bytes) (stateIn bytes) target
+    (none-holds (saveConditions (versionNumber bytes) (stateIn bytes) target) 0 saves)
     ∙ ap (λ (l : List ℕ). record { number = 0; target = l }) (bytes-back bytes passed small)
 
 -- ---- moves
@@ -74,7 +74,7 @@ unfolding move moveConditions
 moved n bytes target done =
     let passed : NoneHolds (moveConditions n bytes target) =
     holds-none (moveConditions n bytes target) (move-non-zero n bytes target) done in
-    let both = none-append ((noVersion n, 10) ∷ sourceConditions bytes) _ passed in
+    let both = none-append (beforeTarget n bytes) _ passed in
     record { asked = both .0 .0; source = both .0 .1; room = both .1 .0 }
 
 -- two lists of conditions of which none holds
@@ -87,7 +87,7 @@ pub move-goes : (n : ℕ) (bytes target : List ℕ) → Moved n bytes target
 unfolding moveConditions
 move-goes n bytes target M =
     move-done n bytes target (none-holds (moveConditions n bytes target) 0
-    (none-both ((noVersion n, 10) ∷ sourceConditions bytes) _ (M .asked, M .source) (M .room, tt)))
+    (none-both (beforeTarget n bytes) _ (M .asked, M .source) (M .room, tt)))
 
 pub move-and-back : MoveAndBack
 unfolding highControlBit wrongTarget
@@ -100,8 +100,8 @@ move-and-back n bytes target back small size done =
     let low : s .control < 2 ^ 16 = leb-false (2 ^ 16) (s .control) (low-control bytes (M .source)) in
     let S : Held s = held bytes (M .source) small in
     let again : stateIn form ≡ s = state-back w s long low S in
-    ap (λ (r : Save). move (numberOf bytes) (r .target) back) (move-goes n bytes target M)
-    ∙ move-goes (numberOf bytes) form back (record {
+    ap (λ (r : Save). move (versionNumber bytes) (r .target) back) (move-goes n bytes target M)
+    ∙ move-goes (versionNumber bytes) form back (record {
       asked = named bytes (M .source);
       source = source-right w s long low S;
       room = ap (λ (x : State). wrongTarget (versionIn bytes) x back) again ∙ room-again bytes back (M .source) small size;
@@ -109,10 +109,24 @@ move-and-back n bytes target back small size done =
     ∙ ap (λ (x : State). record { number = 0; target = savedForm (versionIn bytes) x }) again
     ∙ ap (λ (l : List ℕ). record { number = 0; target = l }) (bytes-back bytes (M .source) small)
 
+pub load-after-move : LoadAfterMove
+unfolding highControlBit loadConditions
+load-after-move n bytes target t small file done =
+    let M : Moved n bytes target = moved n bytes target done in
+    let w : Version = versionOf n in
+    let s : State = stateIn bytes in
+    let long : length (s .vectors) ≡ 2048 = vectors-long bytes (M .source) in
+    let low : s .control < 2 ^ 16 = leb-false (2 ^ 16) (s .control) (low-control bytes (M .source)) in
+    let S : Held s = held bytes (M .source) small in
+    ap (λ (r : Save). load (r .target) t) (move-goes n bytes target M)
+    ∙ load-done (savedForm w s) t (none-holds (loadConditions (savedForm w s) t) 0 (file, source-right w s long low S))
+    ∙ ap (λ (x : State). record { number = 0; state = x }) (state-back w s long low S)
+    ∙ sym (load-done bytes t (none-holds (loadConditions bytes t) 0 (file, M .source)))
+
 pub move-copies : MoveCopies
 move-copies bytes target small done =
-    let M : Moved (numberOf bytes) bytes target = moved (numberOf bytes) bytes target done in
-    ap (λ (r : Save). r .target) (move-goes (numberOf bytes) bytes target M) ∙ bytes-back bytes (M .source) small
+    let M : Moved (versionNumber bytes) bytes target = moved (versionNumber bytes) bytes target done in
+    ap (λ (r : Save). r .target) (move-goes (versionNumber bytes) bytes target M) ∙ bytes-back bytes (M .source) small
 
 -- where the source is right, what is left of a move is what is left of a save: the file that was read has its size, and the control word
 -- is low

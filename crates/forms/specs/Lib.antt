@@ -7,3 +7,4 @@ pub mod Saved
 pub mod Refusals
 pub mod Sizes
 pub mod Trips
+pub mod Rows

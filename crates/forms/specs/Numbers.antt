@@ -11,7 +11,7 @@ unfoldable pub big : ℕ → ℕ → List ℕ
 big zero x = []
 big (suc n) x = (x / 256 ^ n % 256) ∷ big n x
 
--- the number that bytes stand for
+-- the number that bytes stand for, behind bytes that stand for x
 unfoldable pub valueFrom : ℕ → List ℕ → ℕ
 valueFrom x [] = x
 valueFrom x (b ∷ bs) = valueFrom (x * 256 + b) bs

@@ -9,7 +9,7 @@ use Rattle.machine.specs.State.{State}
 use Rattle.machine.specs.Step.{wrongVectorFile}
 use Rattle.machine.specs.Answers.{InOrder}
 use Rattle.forms.specs.Version.{noVersion}
-use Rattle.forms.specs.Saved.{saveConditions, save, numberOf, wrongSize, wrongLength, wrongFile, loadConditions, load, moveConditions, move}
+use Rattle.forms.specs.Saved.{saveConditions, save, versionNumber, wrongSize, wrongLength, wrongFile, loadConditions, load, moveConditions, move}
 
 -- R9.4, R9.6: of every save.
 abbrev pub SaveRefusals : Type 0
@@ -23,10 +23,11 @@ LoadRefusals =
     (bytes : List ℕ) (s : State)
     → InOrder (loadConditions bytes s) (load bytes s .number) × (load bytes s .number ≢ 0 → load bytes s .state ≡ s)
 
--- R9.5: bytes that are no form, whatever their control word, are answered 10 before anything else is but a vector file to load into.
+-- R9.5: bytes that are no saved form are answered 10, whatever control word they hold; on a load only the size of the vector file is asked
+-- before.
 abbrev pub NoForm : List ℕ → Type 0
 NoForm bytes =
-    (noVersion (numberOf bytes) ≡ true) ⊎ ((wrongSize bytes ≡ true) ⊎ ((wrongLength bytes ≡ true) ⊎ (wrongFile bytes ≡ true)))
+    (noVersion (versionNumber bytes) ≡ true) ⊎ ((wrongSize bytes ≡ true) ⊎ ((wrongLength bytes ≡ true) ⊎ (wrongFile bytes ≡ true)))
 
 abbrev pub FormsFirst : Type 0
 FormsFirst =

@@ -37,16 +37,16 @@ save n s target = saveOf (firstOf (saveConditions n s target) 0) (versionOf n) s
 
 -- ---- R9.5: loading
 
--- R9.13: where a form ends, as its first field says
+-- R9.13: where a form ends, as its length field says
 unfoldable pub sizeAt : List ℕ → ℕ
 sizeAt bytes = 4 + numberIn bytes 0 4
 
 -- R9.3: the number of its version, that version, and the state that it holds
-abbrev pub numberOf : List ℕ → ℕ
-numberOf bytes = getD bytes 4 0
+abbrev pub versionNumber : List ℕ → ℕ
+versionNumber bytes = getD bytes 4 0
 
 abbrev pub versionIn : List ℕ → Version
-versionIn bytes = versionOf (numberOf bytes)
+versionIn bytes = versionOf (versionNumber bytes)
 
 abbrev pub stateIn : List ℕ → State
 stateIn bytes = loadedState (versionIn bytes) bytes
@@ -65,7 +65,7 @@ wrongFile bytes = file (versionIn bytes) .wrong (drop fileAt bytes)
 -- the conditions of bytes that are read
 unfoldable pub sourceConditions : List ℕ → List (Bool × ℕ)
 sourceConditions bytes =
-    (noVersion (numberOf bytes), 10)
+    (noVersion (versionNumber bytes), 10)
     ∷ (wrongSize bytes, 10)
     ∷ (wrongLength bytes, 10)
     ∷ (wrongFile bytes, 10)
@@ -89,20 +89,26 @@ load bytes s =
 
 -- ---- R9.10: moving, to the version that has a number
 
--- R4.1: the conditions of the source stand before that of the target
+-- what is asked before the target
+abbrev pub beforeTarget : ℕ → List ℕ → List (Bool × ℕ)
+beforeTarget n bytes = (noVersion n, 10) ∷ sourceConditions bytes
+
+-- R4.1: the conditions with their numbers
 unfoldable pub moveConditions : ℕ → List ℕ → List ℕ → List (Bool × ℕ)
-moveConditions n bytes target =
-    ((noVersion n, 10) ∷ sourceConditions bytes) ++ ((wrongTarget (versionOf n) (stateIn bytes) target, 1) ∷ [])
+moveConditions n bytes target = beforeTarget n bytes ++ ((wrongTarget (versionOf n) (stateIn bytes) target, 1) ∷ [])
 
 unfoldable pub move : ℕ → List ℕ → List ℕ → Save
 move n bytes target = saveOf (firstOf (moveConditions n bytes target) 0) (versionOf n) (stateIn bytes) target
 
 -- ---- R9.12: how many bytes a save and a move need
 
+-- a size, or 0 where something is refused
+abbrev pub sizeIf : ℕ → ℕ → ℕ
+sizeIf number size = cond (eqb number 0) size 0
+
 unfoldable pub savedSize : ℕ → List ℕ → ℕ
 savedSize n vectors =
-    firstOf ((noVersion n, 0) ∷ (not (eqb (length vectors) 2048), 0) ∷ []) (formSize (versionOf n) vectors)
+    sizeIf (firstOf ((noVersion n, 10) ∷ (not (eqb (length vectors) 2048), 1) ∷ []) 0) (formSize (versionOf n) vectors)
 
 unfoldable pub movedSize : ℕ → List ℕ → ℕ
-movedSize n bytes =
-    cond (eqb (firstOf ((noVersion n, 10) ∷ sourceConditions bytes) 0) 0) (formSize (versionOf n) (stateIn bytes .vectors)) 0
+movedSize n bytes = sizeIf (firstOf (beforeTarget n bytes) 0) (formSize (versionOf n) (stateIn bytes .vectors))

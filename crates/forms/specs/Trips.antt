@@ -9,9 +9,9 @@ use Rattle.lists.specs.Lists.{Each}
 use Rattle.machine.specs.State.{State}
 use Rattle.machine.specs.Step.{wrongVectorFile}
 use Rattle.forms.specs.Version.{noVersion}
-use Rattle.forms.specs.Saved.{save, load, move, numberOf}
+use Rattle.forms.specs.Saved.{save, load, move, versionNumber}
 
--- R9.7: a state that the machine's registers can hold (R1.4), which is what the round trips suppose of a state. Its vector file may have any size.
+-- R9.7: a state that the machine's registers can hold (R1.4, R1.7), which is what the round trips suppose of a state. Its vector file may have any size.
 pub record Held (s : State) : Type 0 where
   pub masksCount : length (s .masks) ≡ 8
   pub masks : Each (λ m. m < 2 ^ 64) (s .masks)
@@ -35,7 +35,7 @@ LoadAfterSave =
 abbrev pub SaveAfterLoad : Type 0
 SaveAfterLoad =
     (bytes target : List ℕ) (t : State) → Bytes bytes → length target ≡ length bytes → load bytes t .number ≡ 0
-    → save (numberOf bytes) (load bytes t .state) target ≡ record { number = 0; target = bytes }
+    → save (versionNumber bytes) (load bytes t .state) target ≡ record { number = 0; target = bytes }
 
 -- ---- R9.10, R9.11
 
@@ -46,14 +46,20 @@ MoveIsSaveAfterLoad =
     → (load bytes t .number ≡ 0 → move n bytes target ≡ save n (load bytes t .state) target)
     × (load bytes t .number ≢ 0 → move n bytes target ≡ record { number = load bytes t .number; target = target })
 
+-- What was moved loads as its source does.
+abbrev pub LoadAfterMove : Type 0
+LoadAfterMove =
+    (n : ℕ) (bytes target : List ℕ) (t : State) → Bytes bytes → wrongVectorFile t ≡ false → move n bytes target .number ≡ 0
+    → load (move n bytes target .target) t ≡ load bytes t
+
 -- Move, then move back into any target of the first source's size.
 abbrev pub MoveAndBack : Type 0
 MoveAndBack =
     (n : ℕ) (bytes target back : List ℕ) → Bytes bytes → length back ≡ length bytes → move n bytes target .number ≡ 0
-    → move (numberOf bytes) (move n bytes target .target) back ≡ record { number = 0; target = bytes }
+    → move (versionNumber bytes) (move n bytes target .target) back ≡ record { number = 0; target = bytes }
 
 -- Move to the version that the source has.
 abbrev pub MoveCopies : Type 0
 MoveCopies =
-    (bytes target : List ℕ) → Bytes bytes → move (numberOf bytes) bytes target .number ≡ 0
-    → move (numberOf bytes) bytes target .target ≡ bytes
+    (bytes target : List ℕ) → Bytes bytes → move (versionNumber bytes) bytes target .number ≡ 0
+    → move (versionNumber bytes) bytes target .target ≡ bytes

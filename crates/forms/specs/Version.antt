@@ -17,7 +17,8 @@ abbrev pub isPacked : Version → Bool
 isPacked One = false
 isPacked Two = true
 
--- The version that has a number. Where none has it, this is version 1, and `noVersion`, which is asked first, holds.
+-- The version that has a number. Where none has it this is version 1, and `noVersion` holds, which stands before every condition that goes
+-- by the version.
 unfoldable pub versionOf : ℕ → Version
 versionOf n = cond (eqb n 2) Two One
 

@@ -12,11 +12,12 @@ use Rattle.lists.specs.Lists.{orAll, table}
 use Rattle.lists.proofs.Tables.{is-table, or-not-zero}
 use Rattle.lists.proofs.Filling.{Ored, or-full}
 use Rattle.lists.proofs.Binary.{binary-next}
+use Rattle.machine.specs.State.{registerAt}
 use Rattle.forms.specs.File.{present, register, presence, sumTo, placeOf}
 use Rattle.forms.proofs.Slices.{length-part}
 use Rattle.forms.proofs.Pieces.{sum-next}
 use Rattle.forms.proofs.Words.{digit, wordOf, word-below}
-use Rattle.forms.proofs.Files.{sizeBy, place-most}
+use Rattle.forms.proofs.Files.{sizeBy, place-most, register-is}
 
 -- ---- all bytes of a register or-ed: they come to 0 exactly if each is 0
 
@@ -32,10 +33,10 @@ present-is l size O within h =
 
 -- the part that is lent is the register
 pub lent-register : (l : List ℕ) (i : ℕ) → take (64 * (i + 1) - 64 * i) (drop (64 * i) l) ≡ register l i
-lent-register l i = let e : 64 * (i + 1) - 64 * i ≡ 64 = omega arith in rw e
+lent-register l i = let e : 64 * (i + 1) - 64 * i ≡ 64 = omega arith in rw e (register-is l i)
 
 pub register-long : (l : List ℕ) (i : ℕ) → length l ≡ 2048 → i < 32 → length (take (64 * (i + 1) - 64 * i) (drop (64 * i) l)) ≡ 64
-register-long l i h k = rw (lent-register l i) (length-part (64 * i) 64 l (omega arith))
+register-long l i h k = rw (lent-register l i) (length-part (registerAt i) 64 l (omega arith))
 
 -- ---- the word of a file: x has the bits of the first i registers
 

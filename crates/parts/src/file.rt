@@ -24,7 +24,7 @@ pub fn file_word(packed: bool, vectors: &[u8]) -> u32
 }
 
 // How many bytes a file takes, by its word.
-pub fn file_length(packed: bool, word: u32) -> usize
+pub fn file_size_by(packed: bool, word: u32) -> usize
     ensures { λ r. ⌜ (r ≡ cond packed (placeOf word 32) 2048) × (r ≤ 2052) ⌝ }
 {
     if packed {
@@ -48,7 +48,7 @@ pub fn put_file(part: &mut [u8], packed: bool, word: u32, vectors: &[u8])
 }
 
 // How many bytes a part should have.
-pub fn file_size(packed: bool, part: &[u8]) -> usize
+pub fn file_size_in(packed: bool, part: &[u8]) -> usize
     requires { ⌜ 4 ≤ length (now part) ⌝ }
     ensures { λ r. ⌜ (r ≡ fileForm packed .size (now (part .entry))) × (r ≤ 2052) ⌝ }
 {

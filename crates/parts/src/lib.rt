@@ -72,7 +72,7 @@ pub fn read_registers(part: &[u8], values: &mut [u64])
 }
 
 // Bytes over a part of the same length.
-pub fn copy(part: &mut [u8], bytes: &[u8])
+pub(crate) fn copy(part: &mut [u8], bytes: &[u8])
     requires { ⌜ length (now part) ≡ length (now bytes) ⌝ }
     ensures { λ _. ⌜ now (part .exit) ≡ now (bytes .entry) ⌝ }
 {
@@ -82,7 +82,7 @@ pub fn copy(part: &mut [u8], bytes: &[u8])
 }
 
 // Zeros over a part.
-pub fn clear(part: &mut [u8])
+pub(crate) fn clear(part: &mut [u8])
     ensures { λ _. ⌜ now (part .exit) ≡ zeros (length (now (part .entry))) ⌝ }
 {
     for k in 0..part.len() {
@@ -90,8 +90,9 @@ pub fn clear(part: &mut [u8])
     }
 }
 
-// A register's 64 bytes over a part.
-pub fn copy_register(part: &mut [u8], register: &[u8])
+// A register's 64 bytes over a part, through an array of its own: the back end does not see that the two do not overlap, and goes by single
+// bytes or asks first.
+pub(crate) fn copy_register(part: &mut [u8], register: &[u8])
     requires { ⌜ (length (now part) ≡ 64) × (length (now register) ≡ 64) ⌝ }
     ensures { λ _. ⌜ now (part .exit) ≡ now (register .entry) ⌝ }
 {

@@ -1,4 +1,4 @@
-// The vector file packed (R9.8): a word whose bit i says that register i is present, then the present registers.
+// The vector file packed (R9.8): a word with a bit for each register, and those that are not all zero.
 ghost use mathlib.Core.Path.{_≡_};
 ghost use mathlib.Core.Bool.{cond};
 ghost use mathlib.Core.List.{_++_};
@@ -32,7 +32,7 @@ fn is_marked(word: u32, i: usize) -> bool
     (word >> i) % 2 == 1
 }
 
-// The bit that says that register i is present.
+// The bit of register i in the word, 0 where it is all zero.
 fn mark(register: &[u8], i: usize) -> u32
     requires { ⌜ (i < 32) × (length (now register) ≡ 64) ⌝ }
     ensures { λ r. ⌜ r ≡ cond (present (now (register .entry))) 1 0 * 2 ^ i ⌝ }

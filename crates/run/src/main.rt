@@ -43,7 +43,7 @@ fn read_input(buf: &mut [u8]) -> Input
     }
 }
 
-// The longest good input has 39,123 bytes, so of input that is longer than the buffer the part that is read is bad too.
+// The longest good input has 39,127 bytes, so of input that is longer than the buffer the part that is read is bad too.
 fn main() {
     let mut buf = io::large_buffer();
     let mut output = io::large_buffer();

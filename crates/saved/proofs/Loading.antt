@@ -17,7 +17,7 @@ use Rattle.forms.specs.Version.{isPacked, versionOf, noVersion}
 use Rattle.forms.specs.Numbers.{valueFrom, numberIn}
 use Rattle.forms.specs.File.{packedSize, fileForm}
 use Rattle.forms.specs.Form.{fileAt, file, loadedState}
-use Rattle.forms.specs.Saved.{sizeAt, numberOf, versionIn, stateIn, wrongSize, wrongLength, wrongFile, sourceConditions}
+use Rattle.forms.specs.Saved.{sizeAt, versionNumber, versionIn, stateIn, wrongSize, wrongLength, wrongFile, sourceConditions}
 use Rattle.forms.specs.Saved.{loadConditions, load}
 use Rattle.forms.proofs.Apart.{equal, unequal, registers-in, file-size, vectors-long}
 use Rattle.forms.proofs.Answered.{load-done, load-refused}
@@ -55,7 +55,7 @@ file-lent bytes = take-all (length bytes - 209) (drop 209 bytes) (omega (arith, 
 
 -- a form, but for its control word
 pub record Right (bytes : List ℕ) : Type 0 where
-  pub named : noVersion (numberOf bytes) ≡ false
+  pub named : noVersion (versionNumber bytes) ≡ false
   pub size : wrongSize bytes ≡ false
   pub field : wrongLength bytes ≡ false
   pub file : wrongFile bytes ≡ false
@@ -63,7 +63,7 @@ pub record Right (bytes : List ℕ) : Type 0 where
 module _ (bytes : List ℕ) where
   by-size : wrongSize bytes ≡ true → 10 ≡ firstOf (sourceConditions bytes) 0
   unfolding sourceConditions
-  by-size h = sym (pick 10 (noVersion (numberOf bytes)) (rw h))
+  by-size h = sym (pick 10 (noVersion (versionNumber bytes)) (rw h))
 
   pub too-short : length bytes < 213 → 10 ≡ firstOf (sourceConditions bytes) 0
   unfolding wrongSize
@@ -71,7 +71,7 @@ module _ (bytes : List ℕ) where
       by-size (differ (length bytes) (fileAt + file (versionIn bytes) .size (drop fileAt bytes))
       (λ e. omega (arith, least (isPacked (versionIn bytes)) (drop fileAt bytes))))
 
-  pub no-such : noVersion (numberOf bytes) ≡ true → 10 ≡ firstOf (sourceConditions bytes) 0
+  pub no-such : noVersion (versionNumber bytes) ≡ true → 10 ≡ firstOf (sourceConditions bytes) 0
   unfolding sourceConditions
   no-such e = sym (rw e)
 
@@ -79,7 +79,7 @@ module _ (bytes : List ℕ) where
   unfolding sourceConditions wrongLength
   other-length e h =
       let d : not (eqb (sizeAt bytes) (length bytes)) ≡ true = differ _ _ (λ k. h (e ∙ k)) in
-      sym (pick 10 (noVersion (numberOf bytes)) (pick 10 (wrongSize bytes) (rw d)))
+      sym (pick 10 (noVersion (versionNumber bytes)) (pick 10 (wrongSize bytes) (rw d)))
 
   module _ {packed : Bool} (pack : packed ≡ isPacked (versionIn bytes)) where
     size-lent : fileForm packed .size (lentFile bytes) ≡ file (versionIn bytes) .size (drop fileAt bytes)
@@ -105,10 +105,10 @@ module _ (bytes : List ℕ) where
     unfolding sourceConditions
     wrong-one e h =
         let d : wrongFile bytes ≡ true = wrong-lent e ∙ h in
-        sym (pick 10 (noVersion (numberOf bytes)) (pick 10 (wrongSize bytes) (pick 10 (wrongLength bytes) (rw d))))
+        sym (pick 10 (noVersion (versionNumber bytes)) (pick 10 (wrongSize bytes) (pick 10 (wrongLength bytes) (rw d))))
 
     -- the four tests passed
-    pub right : {n k : ℕ} {w : Bool} → noVersion (numberOf bytes) ≡ false → n ≡ fileForm packed .size (lentFile bytes)
+    pub right : {n k : ℕ} {w : Bool} → noVersion (versionNumber bytes) ≡ false → n ≡ fileForm packed .size (lentFile bytes)
         → length bytes ≡ 209 + n → k ≡ sizeAt bytes → k ≡ length bytes → w ≡ fileForm packed .wrong (lentFile bytes) → w ≡ false
         → Right bytes
     unfolding wrongSize wrongLength

@@ -64,7 +64,7 @@ fn put_numbers(part: &mut [u8], control: u32, pointer: u64, general: &[u64; 16],
 fn form_size(version: Version, word: u32) -> usize
     ensures { λ r. ⌜ r ≡ fileAt + cond (isPacked version) (placeOf word 32) 2048 ⌝ }
 {
-    209 + file::file_length(is_packed(version), word)
+    209 + file::file_size_by(is_packed(version), word)
 }
 
 // A state's form over a target of its size, by its file's word.
@@ -93,7 +93,7 @@ fn put_form(
 
 // R9.4: the state into the target, in the version that has a number. 0, or the number of what is wrong first, with the target as it was.
 pub fn save(
-    version: u32,
+    number: u32,
     vectors: &[u8],
     masks: &[u64; 8],
     general: &[u64; 16],
@@ -102,20 +102,17 @@ pub fn save(
     target: &mut [u8],
 ) -> u32
     ensures { λ r. ⌜ record { number = r; target = now (target .exit) }
-        ≡ save
-        version
-        (stateOf (now (vectors .entry)) (now (masks .entry)) (now (general .entry)) control pointer)
-        (now (target .entry)) ⌝ }
+        ≡ save number (stateOf (now (vectors .entry)) (now (masks .entry)) (now (general .entry)) control pointer) (now (target .entry)) ⌝ }
 {
-    if no_version(version) {
+    if no_version(number) {
         return 10;
     }
     if vectors.len() != 2048 {
         return 1;
     }
-    let form = version_of(version);
-    let word = file::file_word(is_packed(form), vectors);
-    if target.len() != form_size(form, word) {
+    let version = version_of(number);
+    let word = file::file_word(is_packed(version), vectors);
+    if target.len() != form_size(version, word) {
         return 1;
     }
     if 0x1_0000 <= control {
@@ -123,7 +120,7 @@ pub fn save(
     }
     put_form(
         target,
-        form,
+        version,
         word,
         vectors,
         masks,
@@ -143,16 +140,16 @@ fn size_with(version: Version, vectors: &[u8]) -> usize
 }
 
 // R9.12: how many bytes a save needs.
-pub fn saved_size(version: u32, vectors: &[u8]) -> usize
-    ensures { λ r. ⌜ r ≡ savedSize version (now (vectors .entry)) ⌝ }
+pub fn saved_size(number: u32, vectors: &[u8]) -> usize
+    ensures { λ r. ⌜ r ≡ savedSize number (now (vectors .entry)) ⌝ }
 {
-    if no_version(version) {
+    if no_version(number) {
         return 0;
     }
     if vectors.len() != 2048 {
         return 0;
     }
-    size_with(version_of(version), vectors)
+    size_with(version_of(number), vectors)
 }
 
 // ---- loading
@@ -181,12 +178,12 @@ fn source_number(saved: &[u8]) -> u32
     if saved.len() < 213 {
         return 10;
     }
-    let version = number_of(saved[4]);
-    if no_version(version) {
+    let number = number_of(saved[4]);
+    if no_version(number) {
         return 10;
     }
-    let packed = is_packed(version_of(version));
-    if saved.len() != 209 + file::file_size(packed, &saved[209..]) {
+    let packed = is_packed(version_of(number));
+    if saved.len() != 209 + file::file_size_in(packed, &saved[209..]) {
         return 10;
     }
     if size_at(saved) != saved.len() {
@@ -230,9 +227,9 @@ pub fn load(
     if vectors.len() != 2048 {
         return 1;
     }
-    let number = source_number(saved);
-    if number != 0 {
-        return number;
+    let answer = source_number(saved);
+    if answer != 0 {
+        return answer;
     }
     *control = parts::read_number(&saved[5..9]) as u32;
     *pointer = parts::read_number(&saved[9..17]);
@@ -246,10 +243,10 @@ pub fn load(
 
 // R9.10: the state that the source holds into the target, in the version that has a number. 0, or the number of what is wrong first, with
 // the target as it was.
-pub fn move_form(version: u32, source: &[u8], target: &mut [u8]) -> u32
-    ensures { λ r. ⌜ record { number = r; target = now (target .exit) } ≡ move version (now (source .entry)) (now (target .entry)) ⌝ }
+pub fn move_form(number: u32, source: &[u8], target: &mut [u8]) -> u32
+    ensures { λ r. ⌜ record { number = r; target = now (target .exit) } ≡ move number (now (source .entry)) (now (target .entry)) ⌝ }
 {
-    if no_version(version) {
+    if no_version(number) {
         return 10;
     }
     let mut vectors = [0u8; 2048];
@@ -257,7 +254,7 @@ pub fn move_form(version: u32, source: &[u8], target: &mut [u8]) -> u32
     let mut general = [0u64; 16];
     let mut control = 0u32;
     let mut pointer = 0u64;
-    let number = load(
+    let answer = load(
         source,
         &mut vectors,
         &mut masks,
@@ -265,25 +262,17 @@ pub fn move_form(version: u32, source: &[u8], target: &mut [u8]) -> u32
         &mut control,
         &mut pointer,
     );
-    if number != 0 {
-        return number;
+    if answer != 0 {
+        return answer;
     }
-    save(
-        version,
-        &vectors,
-        &masks,
-        &general,
-        control,
-        pointer,
-        target,
-    )
+    save(number, &vectors, &masks, &general, control, pointer, target)
 }
 
 // R9.12: how many bytes a move needs.
-pub fn moved_size(version: u32, source: &[u8]) -> usize
-    ensures { λ r. ⌜ r ≡ movedSize version (now (source .entry)) ⌝ }
+pub fn moved_size(number: u32, source: &[u8]) -> usize
+    ensures { λ r. ⌜ r ≡ movedSize number (now (source .entry)) ⌝ }
 {
-    if no_version(version) {
+    if no_version(number) {
         return 0;
     }
     if source_number(source) != 0 {
@@ -291,5 +280,5 @@ pub fn moved_size(version: u32, source: &[u8]) -> usize
     }
     let mut vectors = [0u8; 2048];
     read_vectors(source, &mut vectors);
-    size_with(version_of(version), &vectors)
+    size_with(version_of(number), &vectors)
 }

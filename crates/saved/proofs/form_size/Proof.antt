@@ -7,14 +7,14 @@ use Rattle.saved.proofs.form_size.Tie as tie
 is-packed-requires : tie.Need-is-packed-requires
 is-packed-requires c κs = search needs
 
-file-length-requires : tie.Need-file-length-requires
-file-length-requires c κs = search needs
+file-size-by-requires : tie.Need-file-size-by-requires
+file-size-by-requires c κs = search needs
 
 add-result : tie.Need-add-result
 add-result c = search needs
 
 returns : tie.Need-returns
-returns c = rw (← c .before .is-packed .ensures) (omega (arith, c .file-length .ensures .0))
+returns c = rw (← c .before .is-packed .ensures) (omega (arith, c .file-size-by .ensures .0))
 
 pub form-size-spec : {M : Type 1} → statement M
-form-size-spec = tie.close (tie.spec is-packed-requires file-length-requires add-result returns)
+form-size-spec = tie.close (tie.spec is-packed-requires file-size-by-requires add-result returns)

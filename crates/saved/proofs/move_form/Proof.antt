@@ -11,7 +11,7 @@ no-version-requires c κs = search needs
 returns : tie.Need-returns
 returns c =
     let start : tie.Start = c .before .before .before .before in
-    no-such (start .args .version) (start .args .source .now) (start .args .target .now)
+    no-such (start .args .number) (start .args .source .now) (start .args .target .now)
     (sym (c .before .no-version .ensures) ∙ c .if1 .taken)
 
 slice-aggregate-load : tie.Need-slice-aggregate-load
@@ -25,7 +25,7 @@ returns-2 c =
     let start : tie.Start = c .before .before .before .before .before .before .before .before .before .before .before .before in
     let if1 = c .before .before .before .before .before .before .before .before .if1 in
     let no-version = c .before .before .before .before .before .before .before .before .before .no-version in
-    move-ends (start .args .version) (start .args .source .now) (start .args .target .now) _ (sym (no-version .ensures) ∙ if1 .left)
+    move-ends (start .args .number) (start .args .source .now) (start .args .target .now) _ (sym (no-version .ensures) ∙ if1 .left)
     refl (c .before .before .load .ensures) (c .if2 .taken)
 
 slice-aggregate-save : tie.Need-slice-aggregate-save
@@ -45,7 +45,7 @@ returns-3 c =
     let load = c .before .before .before .before .before .before .before .before .before .load in
     let if1 = far .before .before .before .before .before .if1 in
     let no-version = far .before .before .before .before .before .before .no-version in
-    move-saves (start .args .version) (start .args .source .now) (start .args .target .now) _ (sym (no-version .ensures) ∙ if1 .left)
+    move-saves (start .args .number) (start .args .source .now) (start .args .target .now) _ (sym (no-version .ensures) ∙ if1 .left)
     refl (load .ensures) (if2 .left) (c .before .before .save .ensures)
 
 pub move-form-spec : {M : Type 1} → statement M

@@ -11,7 +11,7 @@ no-version-requires c κs = search needs
 returns : tie.Need-returns
 returns c =
     let start : tie.Start = c .before .before .before in
-    size-no-such (start .args .version) (start .args .source .now) (sym (c .before .no-version .ensures) ∙ c .if1 .taken)
+    size-no-such (start .args .number) (start .args .source .now) (sym (c .before .no-version .ensures) ∙ c .if1 .taken)
 
 source-number-requires : tie.Need-source-number-requires
 source-number-requires c κs = search needs
@@ -19,7 +19,7 @@ source-number-requires c κs = search needs
 returns-2 : tie.Need-returns-2
 returns-2 c =
     let start : tie.Start = c .before .before .before .before .before in
-    size-wrong (start .args .version) (start .args .source .now)
+    size-wrong (start .args .number) (start .args .source .now)
     (sym (c .before .before .before .no-version .ensures) ∙ c .before .before .if1 .left) (c .before .source-number .ensures)
     (c .if2 .taken)
 
@@ -45,7 +45,7 @@ returns-3 c =
     let source-number = c .before .before .before .before .before .before .before .source-number in
     let if1 = c .before .before .before .before .before .before .before .before .if1 in
     let no-version = c .before .before .before .before .before .before .before .before .before .no-version in
-    size-there (start .args .version) (start .args .source .now) (sym (no-version .ensures) ∙ if1 .left) (source-number .ensures)
+    size-there (start .args .number) (start .args .source .now) (sym (no-version .ensures) ∙ if1 .left) (source-number .ensures)
     (if2 .left) (c .before .before .before .before .read-vectors .ensures)
     (c .size-with .ensures ∙ rw (c .before .before .version-of .ensures))
 

@@ -8,12 +8,12 @@ use Rattle.saved.proofs.Saving.{size-by-word, Shown, no-such, wrong-fil
 use Rattle.saved.proofs.save.Statement.{statement}
 use Rattle.saved.proofs.save.Tie as tie
 
-asked : (c : tie.Else1) → noVersion (c .before .before .before .before .args .version) ≡ false
+asked : (c : tie.Else1) → noVersion (c .before .before .before .before .args .number) ≡ false
 asked c = sym (c .before .no-version .ensures) ∙ c .if1 .left
 
 -- what the tests have shown when the size is known
 shown : (c : tie.After-form-size)
-    → Shown (c .before .before .before .before .before .before .before .before .before .args .version)
+    → Shown (c .before .before .before .before .before .before .before .before .before .args .number)
     (c .before .before .before .before .before .before .before .before .before .args .vectors .now)
     (c .before .before .before .version-of .result)
     (c .form-size .result)

@@ -11,12 +11,12 @@ no-version-requires c κs = search needs
 returns : tie.Need-returns
 returns c =
     let start : tie.Start = c .before .before .before in
-    size-no-such (start .args .version) (start .args .vectors .now) (sym (c .before .no-version .ensures) ∙ c .if1 .taken)
+    size-no-such (start .args .number) (start .args .vectors .now) (sym (c .before .no-version .ensures) ∙ c .if1 .taken)
 
 returns-2 : tie.Need-returns-2
 returns-2 c =
     let start : tie.Start = c .before .before .before .before in
-    size-wrong-file (start .args .version) (start .args .vectors .now)
+    size-wrong-file (start .args .number) (start .args .vectors .now)
     (sym (c .before .before .no-version .ensures) ∙ c .before .if1 .left) (c .if2 .taken)
 
 version-of-requires : tie.Need-version-of-requires
@@ -28,7 +28,7 @@ size-with-requires c κs = search needs
 returns-3 : tie.Need-returns-3
 returns-3 c =
     let start : tie.Start = c .before .before .before .before .before .before in
-    size-there (start .args .version) (start .args .vectors .now)
+    size-there (start .args .number) (start .args .vectors .now)
     (sym (c .before .before .before .before .no-version .ensures) ∙ c .before .before .before .if1 .left) (c .before .before .if2 .left)
     (c .size-with .ensures ∙ rw (c .before .version-of .ensures))
 

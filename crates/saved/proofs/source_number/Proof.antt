@@ -4,13 +4,13 @@ use mathlib.Core.Bool.{false}
 use native.Mathlib.Omega.{arith}
 use borrow.Author.Needs.{needs}
 use Rattle.forms.specs.Version.{isPacked, noVersion}
-use Rattle.forms.specs.Saved.{numberOf, versionIn}
+use Rattle.forms.specs.Saved.{versionNumber, versionIn}
 use Rattle.saved.proofs.Loading.{Right, right, too-short, no-such, other-size, other-length, wrong-one, high-control, is-form}
 use Rattle.saved.proofs.source_number.Statement.{statement}
 use Rattle.saved.proofs.source_number.Tie as tie
 
 -- what the tests have shown, at the places where they have
-named : (c : tie.Else2) → noVersion (numberOf (c .before .before .before .before .before .before .args .saved .now)) ≡ false
+named : (c : tie.Else2) → noVersion (versionNumber (c .before .before .before .before .before .before .args .saved .now)) ≡ false
 named c = ap noVersion (sym (c .before .before .number-of .ensures)) ∙ sym (c .before .no-version .ensures) ∙ c .if2 .left
 
 packs : (c : tie.After-is-packed)
@@ -23,9 +23,9 @@ formed : (c : tie.Else5)
     (c .before .before .before .before .before .before .before .before .before .before .before .before .before .before .before .before .args .saved .now)
 formed c =
     let if3 = c .before .before .before .before .before .if3 in
-    let file-size = c .before .before .before .before .before .before .file-size in
+    let file-size-in = c .before .before .before .before .before .before .file-size-in in
     right _ (packs (c .before .before .before .before .before .before .before .before))
-    (named (c .before .before .before .before .before .before .before .before .before .before)) (file-size .ensures .0) (if3 .left)
+    (named (c .before .before .before .before .before .before .before .before .before .before)) (file-size-in .ensures .0) (if3 .left)
     (c .before .before .before .before .size-at .ensures .0) (c .before .before .before .if4 .left) (c .before .is-wrong .ensures)
     (c .if5 .left)
 
@@ -51,23 +51,23 @@ version-of-requires c κs = search needs
 is-packed-requires : tie.Need-is-packed-requires
 is-packed-requires c κs = search needs
 
-sub-file-size : tie.Need-sub-file-size
-sub-file-size c = search needs
+sub-file-size-in : tie.Need-sub-file-size-in
+sub-file-size-in c = search needs
 
-part-file-size-start : tie.Need-part-file-size-start
-part-file-size-start c = search needs
+part-file-size-in-start : tie.Need-part-file-size-in-start
+part-file-size-in-start c = search needs
 
-part-file-size-end : tie.Need-part-file-size-end
-part-file-size-end c = search needs
+part-file-size-in-end : tie.Need-part-file-size-in-end
+part-file-size-in-end c = search needs
 
-file-size-requires : tie.Need-file-size-requires
-file-size-requires c κs = search needs
+file-size-in-requires : tie.Need-file-size-in-requires
+file-size-in-requires c κs = search needs
 
 add-if3 : tie.Need-add-if3
 add-if3 c = search needs
 
 returns-3 : tie.Need-returns-3
-returns-3 c = other-size _ (packs (c .before .before .before)) (c .before .file-size .ensures .0) (c .if3 .taken)
+returns-3 c = other-size _ (packs (c .before .before .before)) (c .before .file-size-in .ensures .0) (c .if3 .taken)
 
 size-at-requires : tie.Need-size-at-requires
 size-at-requires c κs = search needs
@@ -121,10 +121,10 @@ source-number-spec =
     returns-2
     version-of-requires
     is-packed-requires
-    sub-file-size
-    part-file-size-start
-    part-file-size-end
-    file-size-requires
+    sub-file-size-in
+    part-file-size-in-start
+    part-file-size-in-end
+    file-size-in-requires
     add-if3
     returns-3
     size-at-requires
