@@ -268,7 +268,7 @@ ridgecrook_answer ridgecrook_step(uint8_t *vectors, size_t vectors_length, uint6
  * 2 leaves out the vector registers that are all zero. Every number has its highest byte first.
  *
  *   at    bytes
- *      0      4  the number of bytes that follow these four
+ *      0      4  the length field: the number of bytes that follow these four
  *      4      1  the version: 1 or 2
  *      5      4  the control word
  *      9      8  the pointer
@@ -284,8 +284,8 @@ ridgecrook_answer ridgecrook_step(uint8_t *vectors, size_t vectors_length, uint6
  *
  * Its size (R9.9) is RIDGECROOK_SAVED_SIZE in version 1. In version 2 it is 213 bytes and 64 more
  * for each register that is present: less than in version 1, or 4 bytes more if all 32 are. Where
- * other bytes stand behind a saved form, it ends at 4 plus the number in its first field (R9.13);
- * in bytes that may be damaged that number may be anything, so hold it against
+ * other bytes stand behind a saved form, it ends at 4 plus its length field (R9.13);
+ * in bytes that may be damaged that field may hold anything, so hold it against
  * RIDGECROOK_SAVED_LARGEST - 4 before adding.
  *
  * Libraries from before version 2 load version 1 alone.
@@ -328,7 +328,7 @@ ridgecrook_answer ridgecrook_step(uint8_t *vectors, size_t vectors_length, uint6
  *   - byte 4 is neither 1 nor 2, or there is none
  *   - their number is not 2,257 in version 1, or in version 2 not 213 and 64 for each bit that is
  *     set in the word at 209; less than 213 are never a saved form
- *   - the number in the first field is not that of the bytes behind it
+ *   - the length field is not the number of the bytes behind it
  *   - in version 2, a register that is marked as present is all zero
  *
  * Every answer but RIDGECROOK_DONE is a refusal, and leaves all that was lent as it was (R9.6).
