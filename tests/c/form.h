@@ -1,5 +1,5 @@
 /*
- * The saved form for the C tests, written from its clauses alone (R9.1, R9.2, R9.8, R9.9), states
+ * The saved form for the C tests, written from its clauses alone (R9.1 to R9.3, R9.8, R9.9), states
  * to save, and calls on a whole state.
  */
 #ifndef FORM_H
@@ -13,14 +13,15 @@ enum {
     FILE_AT = 209,   /* of the vector file, whole or packed */
     PACKED_AT = 213, /* of the registers that are present */
     ROOM = 2304,     /* above every size that is right */
+    ALIGNMENTS = 64, /* places that are tried, one byte apart */
     UNTOUCHED = 0xA5
 };
 
 /* Numbers of no version; most have a version's in their lowest or highest bits. */
-static const uint32_t NO_VERSION[] = {0,          3,          257,        258,
-                                      0x10001,    0x10002,    0x01000000, 0x02000000,
-                                      0x80000001, 0x80000002, 0xFFFFFFFE, 0xFFFFFFFF};
-enum { NO_VERSIONS = sizeof NO_VERSION / sizeof NO_VERSION[0] };
+static const uint32_t NO_VERSIONS[] = {0,          3,          257,        258,
+                                       0x10001,    0x10002,    0x01000000, 0x02000000,
+                                       0x80000001, 0x80000002, 0xFFFFFFFE, 0xFFFFFFFF};
+enum { NO_VERSIONS_COUNT = sizeof NO_VERSIONS / sizeof NO_VERSIONS[0] };
 
 typedef struct {
     uint8_t bytes[ROOM]; /* zeros behind the size */
@@ -52,6 +53,14 @@ static inline void put(uint8_t *at, uint64_t value, size_t size) {
     for (size_t i = 0; i < size; i++) {
         at[i] = (uint8_t)(value >> 8 * (size - 1 - i));
     }
+}
+
+static inline uint64_t get(const uint8_t *at, size_t size) {
+    uint64_t value = 0;
+    for (size_t i = 0; i < size; i++) {
+        value = value << 8 | at[i];
+    }
+    return value;
 }
 
 static inline void put_length(form *f) {
@@ -118,6 +127,27 @@ static inline form form_of(uint32_t version, const machine *m) {
     return f;
 }
 
+/* The state that stands at the places of a form (R9.3), be it one that is refused or not. */
+static inline machine state_in(const form *f) {
+    machine m = {.control = (uint32_t)get(f->bytes + 5, 4), .pointer = get(f->bytes + 9, 8)};
+    for (size_t i = 0; i < RIDGECROOK_GENERAL; i++) {
+        m.general[i] = get(f->bytes + 17 + 8 * i, 8);
+    }
+    for (size_t i = 0; i < RIDGECROOK_MASKS; i++) {
+        m.masks[i] = get(f->bytes + 145 + 8 * i, 8);
+    }
+    int packed = f->bytes[4] == 2;
+    uint32_t word = packed ? (uint32_t)get(f->bytes + FILE_AT, 4) : UINT32_MAX;
+    const uint8_t *from = f->bytes + (packed ? PACKED_AT : FILE_AT);
+    for (size_t i = 0; i < REGISTERS; i++) {
+        if ((word >> i & 1) != 0) {
+            memcpy(m.vectors + RIDGECROOK_REGISTER_SIZE * i, from, RIDGECROOK_REGISTER_SIZE);
+            from += RIDGECROOK_REGISTER_SIZE;
+        }
+    }
+    return m;
+}
+
 static inline int same_form(const form *a, const form *b) {
     return a->size == b->size && memcmp(a->bytes, b->bytes, sizeof a->bytes) == 0;
 }
@@ -151,10 +181,10 @@ static inline machine numbered(uint32_t number) {
 /* A number whose word has 13 registers, with the first and the last missing. */
 enum { SOME = 80 };
 
-/* A length that differs from the right one by so much; NOTHING is length 0. */
+/* A length that differs from the expected one by so much; NOTHING is length 0. */
 enum { NOTHING = -10000 };
-static inline size_t changed(size_t right, int by) {
-    return by == NOTHING ? 0 : right + (size_t)by;
+static inline size_t changed(size_t expected, int by) {
+    return by == NOTHING ? 0 : expected + (size_t)by;
 }
 
 /*
@@ -162,7 +192,7 @@ static inline size_t changed(size_t right, int by) {
  * a byte that are changed, or both.
  */
 typedef struct {
-    int by;
+    int length_change;
     size_t place;
     uint8_t bits;
     uint32_t number;
@@ -179,10 +209,10 @@ static const damage DAMAGES[] = {
 };
 enum { DAMAGES_COUNT = sizeof DAMAGES / sizeof DAMAGES[0] };
 
-/* Does it, and gives the length. */
-static inline size_t damaged(form *f, const damage *by) {
-    f->bytes[by->place] ^= by->bits;
-    return changed(f->size, by->by);
+/* Damages the form; returns the length to lend. */
+static inline size_t spoil(form *f, const damage *with) {
+    f->bytes[with->place] ^= with->bits;
+    return changed(f->size, with->length_change);
 }
 
 static inline uint32_t load(const uint8_t *saved, size_t saved_length, machine *m) {

@@ -7,16 +7,36 @@
 
 #include "check.h"
 
-/* Whether a move writes this form and nothing behind it, and leaves the source. */
-static int moves_to(uint32_t version, const form *source, const form *right) {
-    form before = *source, made;
-    memset(made.bytes, UNTOUCHED, sizeof made.bytes);
-    made.size = ridgecrook_moved_size(version, source->bytes, source->size);
-    return made.size == right->size &&
-           ridgecrook_move(version, source->bytes, source->size, made.bytes, made.size) ==
-               RIDGECROOK_DONE &&
-           memcmp(made.bytes, right->bytes, made.size) == 0 && same_form(source, &before) &&
-           holds_only(made.bytes + made.size, ROOM - made.size, UNTOUCHED);
+/* Whether a move of a form that is put there writes the expected one, and leaves the source. */
+static int moves(uint32_t to, const form *source, const form *expected, uint8_t *from,
+                 uint8_t *target) {
+    memcpy(from, source->bytes, source->size);
+    memset(target, UNTOUCHED, expected->size);
+    return ridgecrook_moved_size(to, from, source->size) == expected->size &&
+           ridgecrook_move(to, from, source->size, target, expected->size) == RIDGECROOK_DONE &&
+           memcmp(target, expected->bytes, expected->size) == 0 &&
+           memcmp(from, source->bytes, source->size) == 0;
+}
+
+/* Whether all of some room but so many bytes at a place in it is untouched. */
+static int rest_untouched(const uint8_t room[ROOM + ALIGNMENTS], size_t at, size_t size) {
+    return holds_only(room, at, UNTOUCHED) &&
+           holds_only(room + at + size, ROOM + ALIGNMENTS - at - size, UNTOUCHED);
+}
+
+/* The same at these places of larger room, of which nothing else is written. */
+static int moves_at(uint32_t to, const form *source, const form *expected, size_t from_at,
+                    size_t target_at) {
+    uint8_t from[ROOM + ALIGNMENTS], target[ROOM + ALIGNMENTS];
+    memset(from, UNTOUCHED, sizeof from);
+    memset(target, UNTOUCHED, sizeof target);
+    return moves(to, source, expected, from + from_at, target + target_at) &&
+           rest_untouched(from, from_at, source->size) &&
+           rest_untouched(target, target_at, expected->size);
+}
+
+static int moves_to(uint32_t to, const form *source, const form *expected) {
+    return moves_at(to, source, expected, 0, 0);
 }
 
 /* Between the forms that were written by hand. */
@@ -34,8 +54,8 @@ static void check_moves(void) {
             int moved = 1;
             for (uint32_t number = 0; number < WORDS; number++) {
                 machine m = numbered(number);
-                form source = form_of(from, &m), right = form_of(to, &m);
-                moved &= moves_to(to, &source, &right);
+                form source = form_of(from, &m), expected = form_of(to, &m);
+                moved &= moves_to(to, &source, &expected);
             }
             check(moved, "a move gives the form of the same state");
         }
@@ -69,13 +89,13 @@ static void check_load_and_save(void) {
 
 /* A move that is answered so, has this size, and leaves all that was lent. */
 static void check_refused(uint32_t version, const form *source, size_t source_length,
-                          size_t target_length, size_t size, uint32_t right) {
+                          size_t target_length, size_t size, uint32_t expected) {
     uint8_t target[ROOM];
     form before = *source;
     memset(target, UNTOUCHED, sizeof target);
     uint32_t number =
         ridgecrook_move(version, source->bytes, source_length, target, target_length);
-    check(number == right, "the answer of a refused move");
+    check(number == expected, "the answer of a refused move");
     check(ridgecrook_moved_size(version, source->bytes, source_length) == size, "its size");
     check(holds_only(target, sizeof target, UNTOUCHED), "it leaves the target as it was");
     check(same_form(source, &before), "and the source");
@@ -86,16 +106,16 @@ static void check_refused_moves(uint32_t from, uint32_t to) {
     static const int lengths[] = {-1, 1, -4, -64, NOTHING};
     machine m = numbered(SOME);
     form source = form_of(from, &m);
-    size_t right = form_of(to, &m).size;
+    size_t expected = form_of(to, &m).size;
     for (size_t i = 0; i < sizeof lengths / sizeof lengths[0]; i++) {
-        check_refused(to, &source, source.size, changed(right, lengths[i]), right,
+        check_refused(to, &source, source.size, changed(expected, lengths[i]), expected,
                       RIDGECROOK_BAD_SIZE);
     }
     for (size_t i = 0; i < DAMAGES_COUNT; i++) {
         form spoilt = source;
-        size_t length = damaged(&spoilt, &DAMAGES[i]);
-        check_refused(to, &spoilt, length, right, 0, DAMAGES[i].number);
-        check_refused(to, &spoilt, length, right - 1, 0, DAMAGES[i].number);
+        size_t length = spoil(&spoilt, &DAMAGES[i]);
+        check_refused(to, &spoilt, length, expected, 0, DAMAGES[i].number);
+        check_refused(to, &spoilt, length, expected - 1, 0, DAMAGES[i].number);
         check_refused(to, &spoilt, length, 0, 0, DAMAGES[i].number);
     }
 }
@@ -103,15 +123,15 @@ static void check_refused_moves(uint32_t from, uint32_t to) {
 /* No version comes before every other cause, whatever the source and the target are. */
 static void check_no_version(uint32_t from) {
     machine m = numbered(SOME);
-    for (size_t i = 0; i < NO_VERSIONS; i++) {
+    for (size_t i = 0; i < NO_VERSIONS_COUNT; i++) {
         form source = form_of(from, &m);
         for (uint32_t to = 1; to <= VERSIONS; to++) {
-            check_refused(NO_VERSION[i], &source, source.size, form_of(to, &m).size, 0,
+            check_refused(NO_VERSIONS[i], &source, source.size, form_of(to, &m).size, 0,
                           RIDGECROOK_BAD_SAVED);
         }
-        check_refused(NO_VERSION[i], &source, source.size, 0, 0, RIDGECROOK_BAD_SAVED);
+        check_refused(NO_VERSIONS[i], &source, source.size, 0, 0, RIDGECROOK_BAD_SAVED);
         source.bytes[6] = 1; /* of the control word */
-        check_refused(NO_VERSION[i], &source, source.size, source.size, 0, RIDGECROOK_BAD_SAVED);
+        check_refused(NO_VERSIONS[i], &source, source.size, source.size, 0, RIDGECROOK_BAD_SAVED);
     }
 }
 
@@ -120,11 +140,11 @@ static void check_marked_zero(void) {
     for (uint32_t i = 0; i < REGISTERS; i++) {
         machine m = numbered(REGISTERS + i); /* all registers but this one */
         for (uint32_t to = 1; to <= VERSIONS; to++) {
-            form marked = form_with(UINT32_MAX, &m), right = form_of(to, &m);
-            check_refused(to, &marked, marked.size, right.size, 0, RIDGECROOK_BAD_SAVED);
+            form marked = form_with(UINT32_MAX, &m), expected = form_of(to, &m);
+            check_refused(to, &marked, marked.size, expected.size, 0, RIDGECROOK_BAD_SAVED);
             check_refused(to, &marked, marked.size, marked.size, 0, RIDGECROOK_BAD_SAVED);
             marked.bytes[6] = 1;
-            check_refused(to, &marked, marked.size, right.size, 0, RIDGECROOK_BAD_SAVED);
+            check_refused(to, &marked, marked.size, expected.size, 0, RIDGECROOK_BAD_SAVED);
         }
     }
 }
@@ -155,14 +175,17 @@ static void check_huge(void) {
     for (uint32_t from = 1; from <= VERSIONS; from++) {
         const form *source = &BY_HAND[from - 1];
         for (uint32_t to = 1; to <= VERSIONS; to++) {
-            form right = BY_HAND[to - 1];
-            check(ridgecrook_move(to, source->bytes, source->size, huge, above + right.size) ==
+            uint8_t target[ROOM];
+            size_t size = BY_HAND[to - 1].size;
+            check(ridgecrook_move(to, source->bytes, source->size, huge, above + size) ==
                       RIDGECROOK_BAD_SIZE,
                   "a huge target");
             check(holds_only(huge, ROOM, 0), "stays as it was");
             memcpy(huge, source->bytes, source->size);
-            check(ridgecrook_move(to, huge, above + source->size, right.bytes, right.size) ==
-                      RIDGECROOK_BAD_SAVED,
+            memset(target, UNTOUCHED, sizeof target);
+            check(ridgecrook_move(to, huge, above + source->size, target, size) ==
+                          RIDGECROOK_BAD_SAVED &&
+                      holds_only(target, sizeof target, UNTOUCHED),
                   "a huge source");
             check(ridgecrook_moved_size(to, huge, above + source->size) == 0, "its size");
             memset(huge, 0, ROOM);
@@ -171,20 +194,27 @@ static void check_huge(void) {
     munmap(huge, above + PAGE);
 }
 
+/* Bytes need no alignment, neither those of the source nor those of the target. */
+static void check_alignment(uint32_t from, uint32_t to) {
+    machine m = numbered(SOME);
+    form source = form_of(from, &m), expected = form_of(to, &m);
+    int done = 1;
+    for (size_t i = 0; i < ALIGNMENTS * ALIGNMENTS; i++) {
+        done &= moves_at(to, &source, &expected, i / ALIGNMENTS, i % ALIGNMENTS);
+    }
+    check(done, "a move at every alignment");
+}
+
 /* The ends of the pages that sources and targets are in, and which ends of them. */
 typedef struct {
     uint8_t *source, *target;
     int source_at_beginning, target_at_beginning;
 } places;
 
-static int goes_at_ends(const places *in, uint32_t to, const form *source, const form *right) {
-    uint8_t *from = in_page(in->source, source->size, in->source_at_beginning);
-    uint8_t *target = in_page(in->target, right->size, in->target_at_beginning);
-    memcpy(from, source->bytes, source->size);
-    memset(target, UNTOUCHED, right->size);
-    return ridgecrook_moved_size(to, from, source->size) == right->size &&
-           ridgecrook_move(to, from, source->size, target, right->size) == RIDGECROOK_DONE &&
-           memcmp(target, right->bytes, right->size) == 0;
+static int goes_at_ends(const places *in, uint32_t to, const form *source, const form *expected) {
+    return moves(to, source, expected,
+                 in_page(in->source, source->size, in->source_at_beginning),
+                 in_page(in->target, expected->size, in->target_at_beginning));
 }
 
 /* A target of another size at an end of a page. */
@@ -195,16 +225,24 @@ static int target_is_refused(const places *in, uint32_t to, const form *source, 
            holds_only(target, size, UNTOUCHED);
 }
 
+/* Whether these bytes are no source, and the target is left as it was (R9.6, R9.10). */
+static int is_no_source(uint32_t to, const uint8_t *from, size_t size, size_t target_size) {
+    uint8_t target[ROOM];
+    memset(target, UNTOUCHED, sizeof target);
+    return ridgecrook_moved_size(to, from, size) == 0 &&
+           ridgecrook_move(to, from, size, target, target_size) == RIDGECROOK_BAD_SAVED &&
+           holds_only(target, sizeof target, UNTOUCHED);
+}
+
 /* A source of another size at an end of a page, which may count itself. */
-static int source_is_refused(const places *in, uint32_t to, const form *source, size_t size) {
-    uint8_t *from = in_page(in->source, size, in->source_at_beginning), target[ROOM];
+static int source_is_refused(const places *in, uint32_t to, const form *source, size_t size,
+                             size_t target_size) {
+    uint8_t *from = in_page(in->source, size, in->source_at_beginning);
     memcpy(from, source->bytes, size);
-    int refused = ridgecrook_move(to, from, size, target, ROOM) == RIDGECROOK_BAD_SAVED &&
-                  ridgecrook_moved_size(to, from, size) == 0;
+    int refused = is_no_source(to, from, size, target_size);
     if (size >= 4) {
         put(from, size - 4, 4);
-        refused &= ridgecrook_move(to, from, size, target, ROOM) == RIDGECROOK_BAD_SAVED &&
-                   ridgecrook_moved_size(to, from, size) == 0;
+        refused &= is_no_source(to, from, size, target_size);
     }
     return refused;
 }
@@ -213,14 +251,15 @@ static void check_ends_of(const places *in, uint32_t from, uint32_t to) {
     int done = 1, targets = 1, sources = 1;
     for (uint32_t number = 0; number < WORDS; number++) {
         machine m = numbered(number);
-        form source = form_of(from, &m), right = form_of(to, &m);
-        done &= goes_at_ends(in, to, &source, &right);
+        form source = form_of(from, &m), expected = form_of(to, &m);
+        done &= goes_at_ends(in, to, &source, &expected);
     }
     machine m = numbered(SOME);
-    form source = form_of(from, &m), right = form_of(to, &m);
+    form source = form_of(from, &m), expected = form_of(to, &m);
     for (size_t size = 0; size <= ROOM; size++) {
-        targets &= size == right.size || target_is_refused(in, to, &source, size);
-        sources &= size == source.size || source_is_refused(in, to, &source, size);
+        targets &= size == expected.size || target_is_refused(in, to, &source, size);
+        sources &= size == source.size ||
+                   source_is_refused(in, to, &source, size, expected.size);
     }
     check(done, "a move at the ends of pages");
     check(targets, "every other size of a target there is refused");
@@ -247,6 +286,7 @@ int main(void) {
     for (uint32_t from = 1; from <= VERSIONS; from++) {
         for (uint32_t to = 1; to <= VERSIONS; to++) {
             check_refused_moves(from, to);
+            check_alignment(from, to);
         }
         check_no_version(from);
     }

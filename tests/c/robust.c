@@ -1,10 +1,10 @@
 /*
  * Steps, saves, loads and moves on random bytes and states, with every lent buffer against the end
  * or the beginning of pages that may be touched (R8.4): one byte beyond, and the program stops.
- * After each call it is checked that the answer is one that the header names, that a refusal left
- * all as it was, and that a step wrote nowhere but to its destination, a vector or a mask register;
- * what it is to compute, other tests know. Of the saved form, in both versions, the bytes are
- * checked too, and that a save or a move wrote none beside its target.
+ * After each step it is checked that the answer is one that the header names, that a refusal left
+ * all as it was, and that nothing was written but the destination, a vector or a mask register;
+ * what it is to compute, other tests know. Of a save, a load and a move the answer is known, as are
+ * the bytes or the state (R9.4, R9.5, R9.10), and that nothing beside these is written.
  *
  *   robust [STEPS [SEED]]     1,000,000 steps if nothing is said
  */
@@ -64,9 +64,9 @@ typedef struct {
     size_t vectors_length, code_length, memory_length;
 } lent;
 
-/* The size that is right, but for one call in 32. */
-static size_t mostly(size_t right) {
-    return bits() % 32 != 0 ? right : below(PAGE);
+/* The expected size, but for one call in 32. */
+static size_t mostly(size_t expected) {
+    return bits() % 32 != 0 ? expected : below(PAGE);
 }
 
 static lent place(const pages in[7]) {
@@ -257,24 +257,25 @@ static void keep_room(room *r) {
 }
 
 /* So many bytes mostly, and any number if that is 0, in a page of random bytes. */
-static void lend(room *r, size_t right) {
-    r->length = right != 0 ? mostly(right) : below(PAGE);
+static void lend(room *r, size_t expected) {
+    r->length = expected != 0 ? mostly(expected) : below(PAGE);
     r->at = placed(r->in, r->length);
     fill(r->in.end - PAGE, PAGE);
     keep_room(r);
 }
 
-/* Whether the page is as it was: with 0 beside what is lent, since that is written then. */
-static int room_stays(const room *r, uint32_t number) {
+/* Whether the page is as it was, but for what is lent where that is written. */
+static int room_stays(const room *r, int written) {
     const uint8_t *page = r->in.end - PAGE;
     size_t before = (size_t)(r->at - page);
-    size_t behind = number == RIDGECROOK_DONE ? before + r->length : before;
+    size_t behind = written ? before + r->length : before;
     return memcmp(page, r->kept, before) == 0 &&
            memcmp(page + behind, r->kept + behind, PAGE - behind) == 0;
 }
 
 static uint32_t any_version(void) {
-    return bits() % 16 != 0 ? 1 + (uint32_t)(bits() % VERSIONS) : NO_VERSION[below(NO_VERSIONS)];
+    return bits() % 16 != 0 ? 1 + (uint32_t)(bits() % VERSIONS)
+                            : NO_VERSIONS[below(NO_VERSIONS_COUNT)];
 }
 
 static int is_version(uint32_t number) {
@@ -293,21 +294,34 @@ static void thin(const lent *all) {
     }
 }
 
-/* The form of the state that is lent; of size 0 without a version, or with a wrong vector file. */
-static form form_of_lent(uint32_t version, const lent *all) {
+/* The state that is lent, where its vector file has its size. */
+static machine state_lent(const lent *all) {
     machine m = {.control = *all->control, .pointer = *all->pointer};
-    form none = {{0}, 0};
-    if (!is_version(version) || all->vectors_length != sizeof m.vectors) {
-        return none;
-    }
     memcpy(m.vectors, all->vectors, sizeof m.vectors);
     memcpy(m.masks, all->masks, sizeof m.masks);
     memcpy(m.general, all->general, sizeof m.general);
+    return m;
+}
+
+/* The form of the state that is lent; of size 0 without a version, or with a wrong vector file. */
+static form form_of_lent(uint32_t version, const lent *all) {
+    form none = {{0}, 0};
+    if (!is_version(version) || all->vectors_length != RIDGECROOK_VECTORS_SIZE) {
+        return none;
+    }
+    machine m = state_lent(all);
     return form_of(version, &m);
 }
 
-static int is_form(const room *r, const form *right) {
-    return r->length == right->size && memcmp(r->at, right->bytes, right->size) == 0;
+/* The bytes that are lent, as a form; of more than any form has, the first. */
+static form form_lent(const room *r) {
+    form f = {{0}, r->length};
+    memcpy(f.bytes, r->at, r->length < ROOM ? r->length : ROOM);
+    return f;
+}
+
+static int is_form(const room *r, const form *expected) {
+    return r->length == expected->size && memcmp(r->at, expected->bytes, expected->size) == 0;
 }
 
 static uint32_t save(uint32_t version, const lent *all, const room *target) {
@@ -331,23 +345,23 @@ static uint32_t save_answer(uint32_t version, const lent *all, size_t length, si
     return *all->control > 0xFFFF ? RIDGECROOK_BAD_CONTROL : RIDGECROOK_DONE;
 }
 
-/* A save of the state; its answer is counted and handed back in *number. */
-static int save_is_right(const lent *all, copy *kept, room *target, counts *seen,
-                         uint32_t *number) {
+/* A save of the state; it is counted, and *written says whether a form is there then. */
+static int save_is_right(const lent *all, copy *kept, room *target, counts *seen, int *written) {
     uint32_t version = any_version();
-    form right = form_of_lent(version, all);
-    lend(target, right.size);
+    form to_write = form_of_lent(version, all);
+    lend(target, to_write.size);
     keep(kept, all);
     size_t size = ridgecrook_saved_size(version, all->vectors, all->vectors_length);
-    *number = save(version, all, target);
-    uint32_t expected = save_answer(version, all, target->length, right.size);
+    uint32_t number = save(version, all, target);
+    uint32_t expected = save_answer(version, all, target->length, to_write.size);
     seen->saves[expected]++;
-    return size == right.size && *number == expected && all_stays(kept, all) &&
-           room_stays(target, *number) && (expected != RIDGECROOK_DONE || is_form(target, &right));
+    *written = expected == RIDGECROOK_DONE;
+    return size == to_write.size && number == expected && all_stays(kept, all) &&
+           room_stays(target, *written) && (!*written || is_form(target, &to_write));
 }
 
 /* Spoils a form: its last 64 bytes, or a bit near its beginning, in its word, or anywhere. */
-static void spoil(const room *r) {
+static void spoil_somewhere(const room *r) {
     size_t places[] = {below(12), below(12), FILE_AT + below(4), below(r->length)};
     if (bits() % 4 == 0) {
         memset(r->at + r->length - RIDGECROOK_REGISTER_SIZE, 0, RIDGECROOK_REGISTER_SIZE);
@@ -364,29 +378,45 @@ static void pretend(const room *r) {
     }
 }
 
-/* A load of what stands in the room over another state: what was saved, spoilt or not, or not. */
-static int load_is_right(const lent *all, copy *kept, room *saved, counts *seen,
-                         uint32_t *number) {
-    fill_state(all);
-    keep(kept, all);
-    keep_room(saved);
-    *number = ridgecrook_load(saved->at, saved->length, all->vectors, all->vectors_length,
-                              all->masks, all->general, all->control, all->pointer);
-    if (*number > RIDGECROOK_BAD_CONTROL && *number != RIDGECROOK_BAD_SAVED) {
-        return 0;
+/*
+ * What a load is to answer (R9.5). Bytes are a saved form exactly where they are, length and all,
+ * the form of the state that stands in them: a wrong first field or word, or a register that is
+ * marked and zero, is in no form of a state.
+ */
+static uint32_t load_answer(const form *saved, size_t vectors_length) {
+    machine held = state_in(saved);
+    form again = form_of(saved->bytes[4], &held);
+    if (vectors_length != RIDGECROOK_VECTORS_SIZE) {
+        return RIDGECROOK_BAD_SIZE;
     }
-    seen->loads[*number]++;
-    if (!room_stays(saved, RIDGECROOK_BAD_SAVED)) {
-        return 0;
+    if (!is_version(saved->bytes[4]) || !same_form(saved, &again)) {
+        return RIDGECROOK_BAD_SAVED;
     }
-    if (*number != RIDGECROOK_DONE) {
-        return all_stays(kept, all);
-    }
-    form again = form_of_lent(saved->at[4], all);
-    return is_form(saved, &again) && *all->control <= 0xFFFF;
+    return held.control > 0xFFFF ? RIDGECROOK_BAD_CONTROL : RIDGECROOK_DONE;
 }
 
-/* What a move is to answer where a load of its source answered so (R9.10). */
+/* A load of what stands in the room over another state. */
+static int load_is_right(const lent *all, copy *kept, room *source, counts *seen) {
+    fill_state(all);
+    keep(kept, all);
+    keep_room(source);
+    form saved = form_lent(source);
+    uint32_t number =
+        ridgecrook_load(source->at, source->length, all->vectors, all->vectors_length, all->masks,
+                        all->general, all->control, all->pointer);
+    uint32_t expected = load_answer(&saved, all->vectors_length);
+    seen->loads[expected]++;
+    if (number != expected || !room_stays(source, 0)) {
+        return 0;
+    }
+    if (expected != RIDGECROOK_DONE) {
+        return all_stays(kept, all);
+    }
+    machine held = state_in(&saved), loaded = state_lent(all);
+    return same(&held, &loaded);
+}
+
+/* What a move is to answer where a load of its source is to answer so (R9.10). */
 static uint32_t move_answer(uint32_t version, uint32_t loaded, size_t length, size_t size) {
     if (!is_version(version)) {
         return RIDGECROOK_BAD_SAVED;
@@ -397,39 +427,45 @@ static uint32_t move_answer(uint32_t version, uint32_t loaded, size_t length, si
     return length != size ? RIDGECROOK_BAD_SIZE : RIDGECROOK_DONE;
 }
 
-/* A move of what a load answered so. */
-static int move_is_right(const lent *all, uint32_t loaded, room *source, room *target,
-                         counts *seen) {
+/* A move of what stands in the room. */
+static int move_is_right(room *source, room *target, counts *seen) {
     uint32_t version = any_version();
-    form right = form_of_lent(loaded == RIDGECROOK_DONE ? version : 0, all);
+    form saved = form_lent(source), to_write = {{0}, 0};
+    uint32_t loaded = load_answer(&saved, RIDGECROOK_VECTORS_SIZE);
+    if (is_version(version) && loaded == RIDGECROOK_DONE) {
+        machine held = state_in(&saved);
+        to_write = form_of(version, &held);
+    }
     size_t size = ridgecrook_moved_size(version, source->at, source->length);
-    lend(target, right.size);
+    lend(target, to_write.size);
     uint32_t number =
         ridgecrook_move(version, source->at, source->length, target->at, target->length);
-    uint32_t expected = move_answer(version, loaded, target->length, right.size);
+    uint32_t expected = move_answer(version, loaded, target->length, to_write.size);
+    int written = expected == RIDGECROOK_DONE;
     seen->moves[expected]++;
-    return size == right.size && number == expected && room_stays(source, RIDGECROOK_BAD_SAVED) &&
-           room_stays(target, number) && (expected != RIDGECROOK_DONE || is_form(target, &right));
+    return size == to_write.size && number == expected && room_stays(source, 0) &&
+           room_stays(target, written) && (!written || is_form(target, &to_write));
 }
 
-/* A save of the state, then a load and a move of what stands in the target then. */
-static int transfer_is_right(const lent *all, copy *kept, room rooms[2], counts *seen) {
-    uint32_t saved, loaded;
-    thin(all);
-    int right = save_is_right(all, kept, &rooms[0], seen, &saved);
-    int spoilt = saved == RIDGECROOK_DONE && bits() % 2 == 0;
-    if (spoilt) {
-        spoil(&rooms[0]);
-    } else if (saved != RIDGECROOK_DONE) {
+/*
+ * A save of a state, then a load and a move of what stands in the target then: what was saved, as
+ * it is or spoilt once or more, or other bytes.
+ */
+static int transfer_is_right(const pages in[7], copy *kept, room rooms[2], counts *seen) {
+    int written;
+    lent all = place(in);
+    fill_state(&all);
+    thin(&all);
+    int right = save_is_right(&all, kept, &rooms[0], seen, &written);
+    if (!written) {
         pretend(&rooms[0]);
     }
-    right &= load_is_right(all, kept, &rooms[0], seen, &loaded);
-    if (saved == RIDGECROOK_DONE && !spoilt) {
-        right &= loaded == RIDGECROOK_DONE;
+    while (written && bits() % 2 == 0) {
+        spoil_somewhere(&rooms[0]);
     }
-    if (loaded != RIDGECROOK_BAD_SIZE) { /* which says nothing of the source */
-        right &= move_is_right(all, loaded, &rooms[0], &rooms[1], seen);
-    }
+    all = place(in);
+    right &= load_is_right(&all, kept, &rooms[0], seen);
+    right &= move_is_right(&rooms[0], &rooms[1], seen);
     return right;
 }
 
@@ -452,7 +488,7 @@ static uint64_t run(uint64_t steps, counts *seen) {
         fill_state(&all);
         int right = step_is_right(&all, &kept, seen);
         if (step % 16 == 0) {
-            right &= transfer_is_right(&all, &kept, rooms, seen);
+            right &= transfer_is_right(in, &kept, rooms, seen);
         }
         if (!right && wrong++ < 10) {
             printf("failed: step %" PRIu64 "\n", step);

@@ -27,11 +27,11 @@ static uint32_t save_2(const uint8_t *vectors, size_t vectors_length, const uint
 }
 
 /* Every way to save, and the version that it writes. */
+enum { SAVE, SAVE_IN_1, SAVE_IN_2, WAYS_COUNT };
 static const struct {
     saver *save;
     uint32_t version;
-} WAYS[] = {{ridgecrook_save, 1}, {save_1, 1}, {save_2, 2}};
-enum { WAYS_COUNT = sizeof WAYS / sizeof WAYS[0] };
+} WAYS[] = {[SAVE] = {ridgecrook_save, 1}, [SAVE_IN_1] = {save_1, 1}, [SAVE_IN_2] = {save_2, 2}};
 
 static uint32_t save(size_t way, const machine *m, uint8_t *target, size_t target_length) {
     return WAYS[way].save(m->vectors, sizeof m->vectors, m->masks, m->general, m->control,
@@ -43,21 +43,21 @@ static size_t size_in(uint32_t version, const machine *m) {
 }
 
 /* Whether a save writes this form and nothing behind it, and leaves the state. */
-static int saves_as(size_t way, const machine *m, const form *right) {
+static int saves_as(size_t way, const machine *m, const form *expected) {
     machine old = *m;
     form made;
     memset(made.bytes, UNTOUCHED, sizeof made.bytes);
     made.size = size_in(WAYS[way].version, m);
-    return made.size == right->size && save(way, m, made.bytes, made.size) == RIDGECROOK_DONE &&
-           memcmp(made.bytes, right->bytes, made.size) == 0 && same(m, &old) &&
+    return made.size == expected->size && save(way, m, made.bytes, made.size) == RIDGECROOK_DONE &&
+           memcmp(made.bytes, expected->bytes, made.size) == 0 && same(m, &old) &&
            holds_only(made.bytes + made.size, ROOM - made.size, UNTOUCHED);
 }
 
 /* Whether a load of this form, over some other state, makes this state and leaves the form. */
-static int loads_as(const form *saved, const machine *right) {
+static int loads_as(const form *saved, const machine *expected) {
     form before = *saved;
     machine m = numbered(ALL);
-    return load(saved->bytes, saved->size, &m) == RIDGECROOK_DONE && same(&m, right) &&
+    return load(saved->bytes, saved->size, &m) == RIDGECROOK_DONE && same(&m, expected) &&
            same_form(saved, &before);
 }
 
@@ -65,9 +65,9 @@ static int loads_as(const form *saved, const machine *right) {
 static void check_bytes(void) {
     check(BY_HAND[0].size == RIDGECROOK_SAVED_SIZE, "the size of version 1");
     for (size_t way = 0; way < WAYS_COUNT; way++) {
-        const form *right = &BY_HAND[WAYS[way].version - 1];
-        check(saves_as(way, &HELD, right), "the bytes of a save");
-        check(loads_as(right, &HELD), "and a load of them");
+        const form *expected = &BY_HAND[WAYS[way].version - 1];
+        check(saves_as(way, &HELD, expected), "the bytes of a save");
+        check(loads_as(expected, &HELD), "and a load of them");
     }
 }
 
@@ -77,9 +77,9 @@ static void check_round_trips(void) {
         int saved = 1, loaded = 1;
         for (uint32_t number = 0; number < WORDS; number++) {
             machine m = numbered(number);
-            form right = form_of(WAYS[way].version, &m);
-            saved &= saves_as(way, &m, &right);
-            loaded &= loads_as(&right, &m);
+            form expected = form_of(WAYS[way].version, &m);
+            saved &= saves_as(way, &m, &expected);
+            loaded &= loads_as(&expected, &m);
         }
         check(saved, "a state, saved and so after a load, gives the bytes of its form");
         check(loaded, "a form, loaded and so after a save, gives its state");
@@ -93,8 +93,8 @@ static void check_presence(void) {
         machine m;
         blank(&m);
         m.vectors[place] = (uint8_t)(1 << place % 8);
-        form right = form_with(UINT32_C(1) << place / RIDGECROOK_REGISTER_SIZE, &m);
-        alone &= saves_as(2, &m, &right) && loads_as(&right, &m);
+        form expected = form_with(UINT32_C(1) << place / RIDGECROOK_REGISTER_SIZE, &m);
+        alone &= saves_as(SAVE_IN_2, &m, &expected) && loads_as(&expected, &m);
     }
     check(alone, "one byte alone makes its register present");
     machine zeros;
@@ -104,8 +104,9 @@ static void check_presence(void) {
         zeros.vectors[i] = 0x80;
     }
     check(size_in(2, &zeros) == RIDGECROOK_SAVED_LARGEST, "negative zeros are present");
-    form right = form_with(UINT32_MAX, &zeros);
-    check(saves_as(2, &zeros, &right) && loads_as(&right, &zeros), "saved and loaded");
+    form expected = form_with(UINT32_MAX, &zeros);
+    check(saves_as(SAVE_IN_2, &zeros, &expected) && loads_as(&expected, &zeros),
+          "saved and loaded");
 }
 
 /* No size where a save would refuse the version or the vector file, whatever else (R9.12). */
@@ -118,12 +119,12 @@ static void check_no_size(void) {
             check(ridgecrook_saved_size(version, file, length) == 0, "a wrong vector file");
         }
     }
-    for (size_t i = 0; i < NO_VERSIONS; i++) {
-        check(size_in(NO_VERSION[i], &HELD) == 0, "the size of no version");
+    for (size_t i = 0; i < NO_VERSIONS_COUNT; i++) {
+        check(size_in(NO_VERSIONS[i], &HELD) == 0, "the size of no version");
     }
 }
 
-/* A save that is refused, with lengths that differ so much from the right ones. */
+/* A save that is refused, with lengths that differ so much from the expected ones. */
 typedef struct {
     int vectors, target;
     uint32_t control, number;
@@ -156,10 +157,10 @@ static void check_refused_save(size_t way, const refused_save *row) {
     lent_to_save all, before;
     lend_to_save(&all);
     memcpy(&before, &all, sizeof all);
-    size_t right = form_of(WAYS[way].version, &all.m).size;
+    size_t expected = form_of(WAYS[way].version, &all.m).size;
     uint32_t number = WAYS[way].save(all.file, changed(RIDGECROOK_VECTORS_SIZE, row->vectors),
                                      all.m.masks, all.m.general, row->control, all.m.pointer,
-                                     all.target, changed(right, row->target));
+                                     all.target, changed(expected, row->target));
     check(number == row->number, "the answer of a refused save");
     check(memcmp(&all, &before, sizeof all) == 0, "it leaves all that was lent");
 }
@@ -183,25 +184,25 @@ static void check_refused_saves(void) {
         }
     }
     machine m = numbered(SOME);
-    for (size_t i = 0; i < NO_VERSIONS; i++) {
+    for (size_t i = 0; i < NO_VERSIONS_COUNT; i++) {
         for (uint32_t version = 1; version <= VERSIONS; version++) {
-            check_version_first(NO_VERSION[i], 0, form_of(version, &m).size, 0x1F80);
+            check_version_first(NO_VERSIONS[i], 0, form_of(version, &m).size, 0x1F80);
         }
-        check_version_first(NO_VERSION[i], -1, RIDGECROOK_SAVED_SIZE, 0x1F80);
-        check_version_first(NO_VERSION[i], 0, 0, 0x10000);
+        check_version_first(NO_VERSIONS[i], -1, RIDGECROOK_SAVED_SIZE, 0x1F80);
+        check_version_first(NO_VERSIONS[i], 0, 0, 0x10000);
     }
 }
 
 /* A load with these lengths that is answered so, and leaves all that was lent. */
 static void check_refused_load(const form *saved, size_t saved_length, size_t vectors_length,
-                               uint32_t right) {
+                               uint32_t expected) {
     uint8_t file[RIDGECROOK_VECTORS_SIZE + 1];
     form before = *saved;
     machine m = numbered(SOME + 1), old = m;
     memset(file, UNTOUCHED, sizeof file);
     uint32_t number = ridgecrook_load(saved->bytes, saved_length, file, vectors_length, m.masks,
                                       m.general, &m.control, &m.pointer);
-    check(number == right, "the answer of a refused load");
+    check(number == expected, "the answer of a refused load");
     check(same(&m, &old), "it leaves the registers as they were");
     check(same_form(saved, &before), "and the saved form");
     check(holds_only(file, sizeof file, UNTOUCHED), "and the vector file");
@@ -218,7 +219,7 @@ static void check_refused_loads(void) {
         }
         for (size_t i = 0; i < DAMAGES_COUNT; i++) {
             form spoilt = saved;
-            size_t length = damaged(&spoilt, &DAMAGES[i]);
+            size_t length = spoil(&spoilt, &DAMAGES[i]);
             check_refused_load(&spoilt, length, sizeof m.vectors, DAMAGES[i].number);
             check_refused_load(&spoilt, length, sizeof m.vectors - 1, RIDGECROOK_BAD_SIZE);
         }
@@ -247,6 +248,7 @@ static void check_refused_words(void) {
 static void check_null(void) {
     machine m = numbered(SOME), before = m;
     uint8_t target[RIDGECROOK_SAVED_SIZE];
+    memset(target, UNTOUCHED, sizeof target);
     check(load(NULL, 0, &m) == RIDGECROOK_BAD_SAVED, "no saved form at a null pointer");
     check(ridgecrook_load(BY_HAND[1].bytes, BY_HAND[1].size, NULL, 0, m.masks, m.general,
                           &m.control, &m.pointer) == RIDGECROOK_BAD_SIZE,
@@ -261,7 +263,8 @@ static void check_null(void) {
     check(ridgecrook_save_version(3, NULL, 0, m.masks, m.general, m.control, m.pointer, NULL, 0) ==
               RIDGECROOK_BAD_SAVED,
           "neither of them nor a version");
-    check(same(&m, &before), "leaves all as before");
+    check(same(&m, &before) && holds_only(target, sizeof target, UNTOUCHED),
+          "leaves all as before");
 }
 
 /* Lengths that are right in their lower 32 bits. */
@@ -271,22 +274,26 @@ static void check_huge(void) {
     if (huge == NULL) {
         return;
     }
-    machine m = numbered(SOME);
+    machine m = numbered(SOME), other = numbered(ALL), before = other;
     for (size_t way = 0; way < WAYS_COUNT; way++) {
-        form saved = form_of(WAYS[way].version, &m);
+        form saved = form_of(WAYS[way].version, &m), kept = saved;
         check(save(way, &m, huge, above + saved.size) == RIDGECROOK_BAD_SIZE, "a huge target");
         check(holds_only(huge, ROOM, 0), "stays as it was");
         memcpy(huge, saved.bytes, saved.size);
-        check(load(huge, above + saved.size, &m) == RIDGECROOK_BAD_SAVED, "a huge saved form");
+        check(load(huge, above + saved.size, &other) == RIDGECROOK_BAD_SAVED, "a huge saved form");
         memcpy(huge, m.vectors, sizeof m.vectors);
         size_t length = above + sizeof m.vectors;
-        check(WAYS[way].save(huge, length, m.masks, m.general, m.control, m.pointer, saved.bytes,
-                             saved.size) == RIDGECROOK_BAD_SIZE,
+        check(WAYS[way].save(huge, length, other.masks, other.general, other.control, other.pointer,
+                             saved.bytes, saved.size) == RIDGECROOK_BAD_SIZE,
               "a huge vector file to save");
         check(ridgecrook_saved_size(WAYS[way].version, huge, length) == 0, "its size");
-        check(ridgecrook_load(saved.bytes, saved.size, huge, length, m.masks, m.general,
-                              &m.control, &m.pointer) == RIDGECROOK_BAD_SIZE,
+        memcpy(huge, other.vectors, sizeof other.vectors);
+        check(ridgecrook_load(saved.bytes, saved.size, huge, length, other.masks, other.general,
+                              &other.control, &other.pointer) == RIDGECROOK_BAD_SIZE,
               "a huge vector file to load into");
+        check(same(&other, &before) && same_form(&saved, &kept) &&
+                  memcmp(huge, other.vectors, sizeof other.vectors) == 0,
+              "leave all that was lent");
         memset(huge, 0, ROOM);
     }
     munmap(huge, above + PAGE);
@@ -294,19 +301,19 @@ static void check_huge(void) {
 
 /* Bytes need no alignment. */
 static void check_alignment(void) {
-    uint8_t file[RIDGECROOK_VECTORS_SIZE + 64], bytes[ROOM + 64];
+    uint8_t file[RIDGECROOK_VECTORS_SIZE + ALIGNMENTS], bytes[ROOM + ALIGNMENTS];
     machine m = numbered(SOME), other = numbered(ALL);
     for (size_t way = 0; way < WAYS_COUNT; way++) {
-        form right = form_of(WAYS[way].version, &m);
+        form expected = form_of(WAYS[way].version, &m);
         int done = 1;
-        for (size_t i = 0; i < 64; i++) {
-            uint8_t *vectors = file + i, *target = bytes + 63 - i;
+        for (size_t i = 0; i < ALIGNMENTS; i++) {
+            uint8_t *vectors = file + i, *target = bytes + ALIGNMENTS - 1 - i;
             memcpy(vectors, m.vectors, sizeof m.vectors);
             done &= WAYS[way].save(vectors, sizeof m.vectors, m.masks, m.general, m.control,
-                                   m.pointer, target, right.size) == RIDGECROOK_DONE &&
-                    memcmp(target, right.bytes, right.size) == 0;
+                                   m.pointer, target, expected.size) == RIDGECROOK_DONE &&
+                    memcmp(target, expected.bytes, expected.size) == 0;
             memset(vectors, UNTOUCHED, sizeof m.vectors);
-            done &= ridgecrook_load(target, right.size, vectors, sizeof m.vectors, other.masks,
+            done &= ridgecrook_load(target, expected.size, vectors, sizeof m.vectors, other.masks,
                                     other.general, &other.control,
                                     &other.pointer) == RIDGECROOK_DONE &&
                     memcmp(vectors, m.vectors, sizeof m.vectors) == 0;
@@ -323,25 +330,28 @@ static void check_overlap(void) {
     memcpy(m.masks, words + 70, sizeof m.masks);
     memcpy(m.general, words + 66, sizeof m.general);
     for (size_t way = 0; way < WAYS_COUNT; way++) {
-        form right = form_of(WAYS[way].version, &m), made = {{0}, right.size};
+        form expected = form_of(WAYS[way].version, &m), made = {{0}, expected.size};
         check(WAYS[way].save((const uint8_t *)words, sizeof words, words + 70, words + 66,
                              m.control, m.pointer, made.bytes, made.size) == RIDGECROOK_DONE &&
-                  same_form(&made, &right),
+                  same_form(&made, &expected),
               "a save of registers that overlap");
     }
 }
 
 /* What is lent, each at one end of a page beyond which nothing may be touched. */
 typedef struct {
+    size_t size, vectors_size;
     uint8_t *bytes, *vectors;
     uint64_t *masks, *general, *pointer;
     uint32_t *control;
 } lent;
 
-static lent lend(uint8_t *const ends[6], size_t bytes, size_t vectors, int at_beginning) {
+static lent lend(uint8_t *const ends[6], size_t size, size_t vectors_size, int at_beginning) {
     lent all = {
-        in_page(ends[0], bytes, at_beginning),
-        in_page(ends[1], vectors, at_beginning),
+        size,
+        vectors_size,
+        in_page(ends[0], size, at_beginning),
+        in_page(ends[1], vectors_size, at_beginning),
         (uint64_t *)(void *)in_page(ends[2], sizeof HELD.masks, at_beginning),
         (uint64_t *)(void *)in_page(ends[3], sizeof HELD.general, at_beginning),
         (uint64_t *)(void *)in_page(ends[4], sizeof HELD.pointer, at_beginning),
@@ -350,9 +360,16 @@ static lent lend(uint8_t *const ends[6], size_t bytes, size_t vectors, int at_be
     return all;
 }
 
-/* Puts as much of a state there as there is room for. */
-static void put_state(const lent *all, const machine *m, size_t vectors) {
-    memcpy(all->vectors, m->vectors, vectors < sizeof m->vectors ? vectors : sizeof m->vectors);
+/* How much of a vector file there is room for. */
+static size_t file_part(const lent *all) {
+    size_t whole = RIDGECROOK_VECTORS_SIZE;
+    return all->vectors_size < whole ? all->vectors_size : whole;
+}
+
+/* Puts as much of a state there as there is room for; more room is untouched. */
+static void put_state(const lent *all, const machine *m) {
+    memset(all->vectors, UNTOUCHED, all->vectors_size);
+    memcpy(all->vectors, m->vectors, file_part(all));
     memcpy(all->masks, m->masks, sizeof m->masks);
     memcpy(all->general, m->general, sizeof m->general);
     *all->control = m->control;
@@ -360,65 +377,77 @@ static void put_state(const lent *all, const machine *m, size_t vectors) {
 }
 
 static int has_state(const lent *all, const machine *m) {
-    return memcmp(all->vectors, m->vectors, sizeof m->vectors) == 0 &&
+    size_t part = file_part(all);
+    return memcmp(all->vectors, m->vectors, part) == 0 &&
+           holds_only(all->vectors + part, all->vectors_size - part, UNTOUCHED) &&
            memcmp(all->masks, m->masks, sizeof m->masks) == 0 &&
            memcmp(all->general, m->general, sizeof m->general) == 0 &&
            *all->control == m->control && *all->pointer == m->pointer;
 }
 
-static uint32_t save_lent(size_t way, const lent *all, size_t bytes, size_t vectors) {
-    return WAYS[way].save(all->vectors, vectors, all->masks, all->general, *all->control,
-                          *all->pointer, all->bytes, bytes);
+static uint32_t save_lent(size_t way, const lent *all) {
+    return WAYS[way].save(all->vectors, all->vectors_size, all->masks, all->general,
+                          *all->control, *all->pointer, all->bytes, all->size);
 }
 
-static uint32_t load_lent(const lent *all, size_t bytes, size_t vectors) {
-    return ridgecrook_load(all->bytes, bytes, all->vectors, vectors, all->masks, all->general,
-                           all->control, all->pointer);
+static uint32_t load_lent(const lent *all) {
+    return ridgecrook_load(all->bytes, all->size, all->vectors, all->vectors_size, all->masks,
+                           all->general, all->control, all->pointer);
 }
 
 /* A save and a load of what it wrote, all of it at ends of pages. */
 static int goes_at_ends(uint8_t *const ends[6], size_t way, uint32_t number, int at_beginning) {
     machine m = numbered(number), other = numbered(number + 1);
-    form right = form_of(WAYS[way].version, &m);
-    lent all = lend(ends, right.size, sizeof m.vectors, at_beginning);
-    put_state(&all, &m, sizeof m.vectors);
+    form expected = form_of(WAYS[way].version, &m);
+    lent all = lend(ends, expected.size, sizeof m.vectors, at_beginning);
+    put_state(&all, &m);
     size_t size = ridgecrook_saved_size(WAYS[way].version, all.vectors, sizeof m.vectors);
-    int saved = save_lent(way, &all, right.size, sizeof m.vectors) == RIDGECROOK_DONE &&
-                memcmp(all.bytes, right.bytes, right.size) == 0;
-    put_state(&all, &other, sizeof m.vectors);
-    int loaded = load_lent(&all, right.size, sizeof m.vectors) == RIDGECROOK_DONE;
-    return size == right.size && saved && loaded && has_state(&all, &m);
+    int saved = save_lent(way, &all) == RIDGECROOK_DONE &&
+                memcmp(all.bytes, expected.bytes, expected.size) == 0;
+    put_state(&all, &other);
+    int loaded = load_lent(&all) == RIDGECROOK_DONE;
+    return size == expected.size && saved && loaded && has_state(&all, &m);
+}
+
+/* A save of this state that is refused for a size, and leaves all that was lent (R9.4, R9.6). */
+static int save_is_refused(const lent *all, size_t way, const machine *m) {
+    put_state(all, m);
+    memset(all->bytes, UNTOUCHED, all->size);
+    return save_lent(way, all) == RIDGECROOK_BAD_SIZE && has_state(all, m) &&
+           holds_only(all->bytes, all->size, UNTOUCHED);
+}
+
+/* A load of these bytes over another state, answered so, that leaves all (R9.5, R9.6). */
+static int load_is_refused(const lent *all, const uint8_t *bytes, uint32_t expected) {
+    machine other = numbered(ALL);
+    put_state(all, &other);
+    memcpy(all->bytes, bytes, all->size);
+    return load_lent(all) == expected && has_state(all, &other) &&
+           memcmp(all->bytes, bytes, all->size) == 0;
 }
 
 /* A target and a saved form of another size at an end of a page; the latter may count itself. */
 static int size_is_refused(uint8_t *const ends[6], size_t way, size_t size, int at_beginning) {
     machine m = numbered(SOME);
-    lent all = lend(ends, size, sizeof m.vectors, at_beginning);
-    put_state(&all, &m, sizeof m.vectors);
-    memset(all.bytes, UNTOUCHED, size);
-    int refused = save_lent(way, &all, size, sizeof m.vectors) == RIDGECROOK_BAD_SIZE &&
-                  holds_only(all.bytes, size, UNTOUCHED);
     form cut = form_of(WAYS[way].version, &m);
-    memcpy(all.bytes, cut.bytes, size);
-    refused &= load_lent(&all, size, sizeof m.vectors) == RIDGECROOK_BAD_SAVED;
+    lent all = lend(ends, size, sizeof m.vectors, at_beginning);
+    int refused = save_is_refused(&all, way, &m) &&
+                  load_is_refused(&all, cut.bytes, RIDGECROOK_BAD_SAVED);
     if (size >= 4) {
-        put(all.bytes, size - 4, 4);
-        refused &= load_lent(&all, size, sizeof m.vectors) == RIDGECROOK_BAD_SAVED;
+        put(cut.bytes, size - 4, 4);
+        refused &= load_is_refused(&all, cut.bytes, RIDGECROOK_BAD_SAVED);
     }
-    return refused && has_state(&all, &m);
+    return refused;
 }
 
 /* A vector file of another size at an end of a page. */
 static int file_is_refused(uint8_t *const ends[6], size_t way, size_t size, int at_beginning) {
     machine m = numbered(SOME);
-    form right = form_of(WAYS[way].version, &m);
-    lent all = lend(ends, right.size, size, at_beginning);
-    put_state(&all, &m, size);
-    memcpy(all.bytes, right.bytes, right.size);
-    return ridgecrook_saved_size(WAYS[way].version, all.vectors, size) == 0 &&
-           save_lent(way, &all, right.size, size) == RIDGECROOK_BAD_SIZE &&
-           load_lent(&all, right.size, size) == RIDGECROOK_BAD_SIZE &&
-           memcmp(all.bytes, right.bytes, right.size) == 0;
+    form saved = form_of(WAYS[way].version, &m);
+    lent all = lend(ends, saved.size, size, at_beginning);
+    return save_is_refused(&all, way, &m) &&
+           ridgecrook_saved_size(WAYS[way].version, all.vectors, size) == 0 &&
+           load_is_refused(&all, saved.bytes, RIDGECROOK_BAD_SIZE);
 }
 
 static void check_ends_of(uint8_t *const ends[6], size_t way, int at_beginning) {
