@@ -326,8 +326,8 @@ ridgecrook_answer ridgecrook_step(uint8_t *vectors, size_t vectors_length, uint6
  * Bytes are not a saved form (R9.5) if one of these holds:
  *
  *   - byte 4 is neither 1 nor 2, or there is none
- *   - their number is not 2,257 in version 1, or in version 2 not 213 and 64 for each bit that is
- *     set in the word at 209; less than 213 are never a saved form
+ *   - their number is not RIDGECROOK_SAVED_SIZE in version 1, or in version 2 not 213 and 64 for
+ *     each bit that is set in the word at 209; less than 213 are never a saved form
  *   - the length field is not the number of the bytes behind it
  *   - in version 2, a register that is marked as present is all zero
  *

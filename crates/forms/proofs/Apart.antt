@@ -1,5 +1,5 @@
--- A saved form taken apart and put together, in any version: the state that it holds is the one that was written, and the bytes that hold a
--- state are those that it writes. Each part is read where it was written, and is written where it was read.
+-- Both ways of a saved form, over any version: `state-back` from a state to bytes and back again, `bytes-back` from bytes to a state and back
+-- again. Each part goes by itself, since it is read at the place where it is written.
 -- Assumes nothing.
 use Prim.Native.Nat.{ℕ, _+_, _*_, _^_, _≤_, _<_}
 use mathlib.Core.Bool.{false, not}
@@ -57,7 +57,7 @@ pub most : (v : Version) (vectors : List ℕ) → length vectors ≡ 2048 → fo
 unfolding formSize
 most v vectors h = omega (arith, laws v .most-put vectors h)
 
--- ---- the state that was written is read
+-- ---- from a state to bytes and back
 
 module _ (v : Version) (s : State) (long : length (s .vectors) ≡ 2048) where
   -- a part of the numbers, in the saved form
@@ -138,7 +138,7 @@ module _ (v : Version) (s : State) (long : length (s .vectors) ≡ 2048) where
       ),
     )
 
--- ---- the bytes that were read are written
+-- ---- from bytes to a state and back
 
 module _ (bytes : List ℕ) (passed : NoneHolds (sourceConditions bytes)) where
   abbrev version : Version
@@ -197,7 +197,7 @@ module _ (bytes : List ℕ) (passed : NoneHolds (sourceConditions bytes)) where
         let i : k < n = rw (length-table n (λ k. numberIn bytes (at + 8 * k) 8)) at l in
         rw (getD-table n (λ k. numberIn bytes (at + 8 * k) 8) k 0 i) (number-held (at + 8 * k) 8 (omega arith)))
 
-    -- what was read can be held
+    -- registers of 64 bits hold it
     pub held : Held (stateIn bytes)
     unfolding loadedState
     held =

@@ -1,5 +1,4 @@
--- The two forms of the vector file: what is written is read back, and what is read is written back. Of the whole file nothing is to be
--- shown; of the packed one it goes register by register.
+-- A vector file there and back, whole or packed. Whole there is nothing to show; packed it goes register by register, each by its mark.
 -- Assumes nothing.
 use Prim.Native.Nat.{ℕ, zero, suc, _+_, _*_, _≤_, _<_, _^_}
 use mathlib.Core.Bool.{Bool, true, false, cond, not, _&&_}
@@ -28,7 +27,7 @@ use Rattle.forms.proofs.Pieces.{sum-equal, sum-most, sum-within, joined
 use Rattle.forms.proofs.Pieces.{even-part, even-cut}
 use Rattle.forms.proofs.Words.{digit, word-below, word-bit, word-of-bits}
 
--- A file of 2,048 bytes is read back from what is written; bytes that are as many as they say, and not wrong, are written back.
+-- What is supposed: of a file, that it has 2,048 bytes; of bytes, that they are as many as they should be and nothing else is wrong.
 pub record FileLaws (f : FileForm) : Type 0 where
   pub length-put : (file : List ℕ) → length file ≡ 2048 → length (f .put file) ≡ f .size (f .put file)
   pub most-put : (file : List ℕ) → length file ≡ 2048 → length (f .put file) ≤ 2052
@@ -48,7 +47,7 @@ whole-laws =
       put-get = λ l b h w. refl;
     }
 
--- ---- a register that is present, and one that is not
+-- ---- presence is not being all zero
 
 zero-byte : (b : ℕ) → not (eqb b 0) ≡ false → b ≡ 0
 zero-byte b h = eqb-true b 0 (not-false (eqb b 0) h)
@@ -78,7 +77,7 @@ none-of (suc n) p h = rw (← add-one n, some-next p n (λ k. k), none-of n p (�
 
 -- ---- places behind the word
 
--- how many bytes a register takes there
+-- what register j adds to them
 abbrev pub sizeBy : ℕ → ℕ → ℕ
 sizeBy word j = cond (isSet word j) 64 0
 

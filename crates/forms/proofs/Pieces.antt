@@ -1,4 +1,4 @@
--- Pieces put one behind the other, each of which is found again at its place: as many bytes in as the pieces before it have.
+-- Pieces put one behind the other: where each stands, which is at the sum of the sizes before it, and that cutting there gives it back.
 -- Assumes nothing.
 use Prim.Native.Nat.{ℕ, zero, suc, _+_, _*_, _≤_, _<_}
 use mathlib.Core.Path.{_≡_, refl, sym, ap, ap₂, _∙_}
@@ -76,7 +76,7 @@ unfolding sumTo
 length-joined zero f = rw (joined-none f)
 length-joined (suc n) f = rw (joined-suc n f, length-append, length-joined n f)
 
--- each at its place, where the pieces' sizes are s
+-- of sizes s
 module _ (f : ℕ → List ℕ) (s : ℕ → ℕ) where
   pub length-sized : (n : ℕ) → ((k : ℕ) → k < n → length (f k) ≡ s k) → length (joined n f) ≡ sumTo n s
   length-sized n h = length-joined n f ∙ sum-equal n (λ k. length (f k)) s h

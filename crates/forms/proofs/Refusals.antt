@@ -54,7 +54,7 @@ move-refusals n bytes target = (
 
 -- ---- 10 before 2
 
--- a condition before one that holds, where both have the same number
+-- an earlier condition with the same number changes nothing
 pub pick : (k : ℕ) (a : Bool) {m : ℕ} → m ≡ k → cond a k m ≡ k
 pick k true e = refl
 pick k false e = e

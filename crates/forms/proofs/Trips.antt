@@ -128,8 +128,8 @@ move-copies bytes target small done =
     let M : Moved (versionNumber bytes) bytes target = moved (versionNumber bytes) bytes target done in
     ap (λ (r : Save). r .target) (move-goes (versionNumber bytes) bytes target M) ∙ bytes-back bytes (M .source) small
 
--- where the source is right, what is left of a move is what is left of a save: the file that was read has its size, and the control word
--- is low
+-- behind a source that passes, a move asks what a save asks and the source has not settled: a file that was read has 2,048 bytes, and a high
+-- control word was refused
 same-number : (n : ℕ) (bytes target : List ℕ) → NoneHolds (sourceConditions bytes)
     → firstOf (moveConditions n bytes target) 0 ≡ firstOf (saveConditions n (stateIn bytes) target) 0
 unfolding moveConditions saveConditions wrongVectorFile
@@ -138,7 +138,7 @@ same-number n bytes target passed =
     (first-append (sourceConditions bytes) _ 0 ∙ none-holds (sourceConditions bytes) _ passed)
     ∙ rw (vectors-long bytes passed, low-control bytes passed)
 
--- where it is not, that decides
+-- a refused source settles it
 refused-first : (xs ys : List (Bool × ℕ)) (k : ℕ) → k ≢ 0 → firstOf xs 0 ≡ k → firstOf (xs ++ ys) 0 ≡ k
 refused-first xs ys zero h e = absurd (h refl)
 refused-first xs ys (suc k) h e = first-append xs ys 0 ∙ first-found xs k (firstOf ys 0) e

@@ -1,4 +1,4 @@
--- The number whose bit i says p i: what its bits are, and every number is that of its bits.
+-- Numbers by their bits: which bits the number with given ones has, and that it is below 2 to their count; a number is that of its own.
 -- Assumes nothing.
 use Prim.Native.Nat.{ℕ, zero, suc, _+_, _*_, _/_, _%_, _<_, _≤_, _^_}
 use mathlib.Core.Bool.{Bool, true, false, cond}

@@ -13,7 +13,7 @@ use Rattle.forms.specs.Numbers.{big, numberIn, joined}
 pub record FileForm : Type 0 where
   pub put : List ℕ → List ℕ
   pub get : List ℕ → List ℕ
-  -- R9.5: of bytes to be read, how many they should be, and whether they are wrong although they are as many
+  -- R9.5: the number that bytes to be read should have, and what else may be wrong with them
   pub size : List ℕ → ℕ
   pub wrong : List ℕ → Bool
 
@@ -27,7 +27,7 @@ whole = record { put = λ file. file; get = λ bytes. bytes; size = λ bytes. 20
 abbrev pub register : List ℕ → ℕ → List ℕ
 register file i = take 64 (drop (registerAt i) file)
 
--- some byte of it is not 0
+-- not all of these bytes are 0
 unfoldable pub present : List ℕ → Bool
 present bytes = some (λ b. not (eqb b 0)) bytes
 

@@ -1,4 +1,4 @@
--- A turn more of the loops over the bytes of a register and over the registers of a file.
+-- What the loops over a register's bytes and over a file's registers keep from turn to turn.
 -- Assumes nothing.
 use Prim.Native.Nat.{ℕ, _+_, _-_, _*_, _^_, _≤_, _<_}
 use mathlib.Core.Bool.{cond, not}
@@ -31,7 +31,7 @@ pub present-is : (l : List ℕ) {all j : ℕ} → length l ≡ 64 → Ored (λ k
 present-is l size O within h =
     rw (or-full O within h, ← is-table 64 (λ k. getD l k 0) 0 l size (λ k i. refl)) (all-zero l)
 
--- the part that is lent is the register
+-- register i, as the loops lend it
 pub lent-register : (l : List ℕ) (i : ℕ) → take (64 * (i + 1) - 64 * i) (drop (64 * i) l) ≡ register l i
 lent-register l i = let e : 64 * (i + 1) - 64 * i ≡ 64 = omega arith in rw e (register-is l i)
 

@@ -1,4 +1,4 @@
--- A turn of the loops that put and read the present registers, and what they come to.
+-- The same for the loops that pack a file, unpack it, and look for a marked register that is all zero.
 -- Assumes nothing.
 use Prim.Native.Nat.{ℕ, _+_, _-_, _*_, _≤_, _<_}
 use mathlib.Core.Bool.{Bool, true, false, cond, not, _&&_, _||_}

@@ -12,6 +12,9 @@ ghost use Rattle.forms.specs.Saved.{save, sizeAt, stateIn, sourceConditions, lo
 use forms::Version;
 use parts::file;
 
+// R9.1: where the vector file begins.
+const FILE_AT: usize = 209;
+
 // ---- the versions (R9.1)
 
 fn version_byte(version: Version) -> u8
@@ -64,7 +67,7 @@ fn put_numbers(part: &mut [u8], control: u32, pointer: u64, general: &[u64; 16],
 fn form_size(version: Version, word: u32) -> usize
     ensures { λ r. ⌜ r ≡ fileAt + cond (isPacked version) (placeOf word 32) 2048 ⌝ }
 {
-    209 + file::file_size_by(is_packed(version), word)
+    FILE_AT + file::file_size_by(is_packed(version), word)
 }
 
 // A state's form over a target of its size, by its file's word.
@@ -87,8 +90,8 @@ fn put_form(
     let end = target.len();
     parts::put_number(&mut target[0..4], (end - 4) as u64);
     parts::put_number(&mut target[4..5], version_byte(version) as u64);
-    put_numbers(&mut target[5..209], control, pointer, general, masks);
-    file::put_file(&mut target[209..end], is_packed(version), word, vectors);
+    put_numbers(&mut target[5..FILE_AT], control, pointer, general, masks);
+    file::put_file(&mut target[FILE_AT..end], is_packed(version), word, vectors);
 }
 
 // R9.4: the state into the target, in the version that has a number. 0, or the number of what is wrong first, with the target as it was.
@@ -171,11 +174,11 @@ fn number_of(byte: u8) -> u32
     byte as u32
 }
 
-// R9.5: the number of what is wrong first with bytes that are to be read, 0 for nothing. No form has less than 213.
+// R9.5: the number of what is wrong first with bytes that are to be read, 0 for nothing. Every form has a word or a whole file.
 fn source_number(saved: &[u8]) -> u32
     ensures { λ r. ⌜ r ≡ firstOf (sourceConditions (now (saved .entry))) 0 ⌝ }
 {
-    if saved.len() < 213 {
+    if saved.len() < FILE_AT + 4 {
         return 10;
     }
     let number = number_of(saved[4]);
@@ -183,13 +186,13 @@ fn source_number(saved: &[u8]) -> u32
         return 10;
     }
     let packed = is_packed(version_of(number));
-    if saved.len() != 209 + file::file_size_in(packed, &saved[209..]) {
+    if saved.len() != FILE_AT + file::file_size_in(packed, &saved[FILE_AT..]) {
         return 10;
     }
     if size_at(saved) != saved.len() {
         return 10;
     }
-    if file::is_wrong(packed, &saved[209..]) {
+    if file::is_wrong(packed, &saved[FILE_AT..]) {
         return 10;
     }
     if 0x1_0000 <= parts::read_number(&saved[5..9]) {
@@ -204,7 +207,7 @@ fn read_vectors(saved: &[u8], vectors: &mut [u8])
     ensures { λ _. ⌜ now (vectors .exit) ≡ stateIn (now (saved .entry)) .vectors ⌝ }
 {
     let packed = is_packed(version_of(number_of(saved[4])));
-    file::read_file(packed, &saved[209..], vectors);
+    file::read_file(packed, &saved[FILE_AT..], vectors);
 }
 
 // R9.5: the state that the bytes hold, into what is lent. 0, or the number of what is wrong first, with the state as it was.
@@ -234,7 +237,7 @@ pub fn load(
     *control = parts::read_number(&saved[5..9]) as u32;
     *pointer = parts::read_number(&saved[9..17]);
     parts::read_registers(&saved[17..145], general);
-    parts::read_registers(&saved[145..209], masks);
+    parts::read_registers(&saved[145..FILE_AT], masks);
     read_vectors(saved, vectors);
     0
 }

@@ -102,7 +102,7 @@ pub fn size(machine: &Machine, version: u32) -> usize {
     }
 }
 
-/// R9.8: the word whose bit i says that some byte of register i is not 0.
+/// R9.8: a bit for each register, 1 where not all its bytes are 0.
 fn presence(machine: &Machine) -> u32 {
     let mut word = 0;
     for (number, register) in machine.vectors.chunks(REGISTER_SIZE).enumerate() {

@@ -29,6 +29,9 @@ formed c =
     (c .before .before .before .before .size-at .ensures .0) (c .before .before .before .if4 .left) (c .before .is-wrong .ensures)
     (c .if5 .left)
 
+add-if1 : tie.Need-add-if1
+add-if1 c = search needs
+
 returns : tie.Need-returns
 returns c = too-short (c .before .before .args .saved .now) (c .if1 .taken)
 
@@ -114,6 +117,7 @@ pub source-number-spec : {M : Type 1} → statement M
 source-number-spec =
     tie.close
     (tie.spec
+    add-if1
     returns
     shared-slice-read-number-of
     number-of-requires
