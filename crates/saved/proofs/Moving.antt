@@ -1,20 +1,24 @@
 -- The code of a move: it loads into a state of its own, and saves what came of that.
 -- Assumes nothing.
-use Prim.Native.Nat.{ℕ}
-use mathlib.Core.Bool.{true, false}
+use Prim.Native.Nat.{ℕ, _+_}
+use mathlib.Core.Bool.{Bool, true, false, cond, not}
 use mathlib.Core.Path.{_≡_, refl, sym, ap, _∙_}
 use mathlib.Core.List.{List, _∷_}
-use borrow.Author.Tests.{ne-eqb}
+use borrow.Author.Tests.{ne-eqb, not-true}
 use lib.ListN.{length}
-use Rattle.lists.specs.Lists.{firstOf}
+use Rattle.lists.specs.Lists.{firstOf, NoneHolds}
 use Rattle.machine.specs.State.{State}
 use Rattle.machine.specs.Step.{wrongVectorFile}
-use Rattle.forms.specs.Version.{versionOf, noVersion}
-use Rattle.forms.specs.Form.{formSize}
+use Rattle.forms.specs.declared.Version.{Version}
+use Rattle.forms.specs.Version.{isPacked, versionOf, noVersion}
+use Rattle.forms.specs.File.{placeOf}
+use Rattle.forms.specs.Form.{fileAt, formSize}
 use Rattle.forms.specs.Saved.{Save, save, Load, load, stateIn, sourceConditions, moveConditions, move, movedSize}
-use Rattle.forms.proofs.Apart.{unequal}
+use Rattle.forms.proofs.Apart.{unequal, vectors-long}
 use Rattle.forms.proofs.Answered.{move-refused}
 use Rattle.forms.proofs.Trips.{move-is-save-after-load}
+use Rattle.saved.proofs.Saving.{size-by-word}
+use Rattle.saved.proofs.Loading.{passed}
 
 pub no-such : (n : ℕ) (bytes target : List ℕ) → noVersion n ≡ true → record { number = 10; target = target } ≡ move n bytes target
 unfolding moveConditions
@@ -56,3 +60,11 @@ module _ (n : ℕ) (bytes : List ℕ) where
         → r ≡ formSize (versionOf n) vectors → r ≡ movedSize n bytes
     unfolding movedSize
     size-there h v e = e ∙ rw (asked, ← answer, h, v)
+
+    -- of a whole file
+    pub size-whole : {r : ℕ} {v : Version} {packed : Bool} → k ≡ 0 → v ≡ versionOf n → packed ≡ isPacked v → not packed ≡ true
+        → r ≡ fileAt + cond (isPacked v) (placeOf 0 32) 2048 → r ≡ movedSize n bytes
+    size-whole {r} {v} h is p w e =
+        let flat : isPacked v ≡ false = sym p ∙ not-true _ w in
+        let right : NoneHolds (sourceConditions bytes) = passed bytes answer h in
+        size-there h refl (size-by-word v (stateIn bytes .vectors) (vectors-long bytes right) (rw flat) e ∙ rw is)

@@ -271,7 +271,7 @@ pub fn move_form(number: u32, source: &[u8], target: &mut [u8]) -> u32
     save(number, &vectors, &masks, &general, control, pointer, target)
 }
 
-// R9.12: how many bytes a move needs.
+// R9.12: how many bytes a move needs. A whole file has one size, whatever stands in it.
 pub fn moved_size(number: u32, source: &[u8]) -> usize
     ensures { λ r. ⌜ r ≡ movedSize number (now (source .entry)) ⌝ }
 {
@@ -281,7 +281,11 @@ pub fn moved_size(number: u32, source: &[u8]) -> usize
     if source_number(source) != 0 {
         return 0;
     }
+    let version = version_of(number);
+    if !is_packed(version) {
+        return form_size(version, 0);
+    }
     let mut vectors = [0u8; 2048];
     read_vectors(source, &mut vectors);
-    size_with(version_of(number), &vectors)
+    size_with(version, &vectors)
 }
