@@ -1,29 +1,26 @@
 -- The statement `Takes` of specs/Runs.antt: each part is found where it was put, behind the form's own length.
 -- Assumes nothing.
-use Prim.Native.Nat.{ℕ, _+_, _-_, _^_, _≤_, _<_}
-use mathlib.Core.Bool.{true, false, _&&_}
+use Prim.Native.Nat.{ℕ, _+_, _-_, _≤_}
+use mathlib.Core.Bool.{true, false}
 use mathlib.Core.List.{List, _++_}
 use mathlib.Core.Path.{_≡_, sym, ap, _∙_}
 use native.Mathlib.Omega.{arith}
-use borrow.Author.Tests.{le-leb, leb-false, eqb-true, not-false}
-use lib.Dec.{eqb, leb}
+use borrow.Author.Tests.{le-leb}
 use lib.ListN.{length, take, drop, length-append}
 use lib.Seq.{take-at, drop-at, drop-drop}
-use Rattle.lists.specs.Lists.{table, NoneHolds}
-use Rattle.lists.proofs.First.{none-holds}
+use Rattle.lists.proofs.Tests.{equal, same}
 use Rattle.lists.proofs.Tables.{length-table}
 use Rattle.machine.specs.State.{State}
 use Rattle.machine.specs.Step.{wrongVectorFile, highControlBit}
 use Rattle.forms.specs.declared.Version.{Version}
-use Rattle.forms.specs.Numbers.{big, valueFrom}
+use Rattle.forms.specs.Numbers.{big}
 use Rattle.forms.specs.Form.{savedForm}
-use Rattle.forms.specs.Saved.{sizeAt, Load, load, loadConditions}
+use Rattle.forms.specs.Saved.{sizeAt, Load, load}
 use Rattle.forms.specs.Trips.{Held}
 use Rattle.forms.proofs.Numbers.{length-big, value-big}
-use Rattle.forms.proofs.Apart.{equal, unequal, state-back, source-right}
-use Rattle.forms.proofs.Answered.{load-done}
+use Rattle.forms.proofs.Trips.{load-saved}
 use Rattle.forms.proofs.Sizes.{forms-in-front}
-use Rattle.command.specs.Command.{blank, codeLength, codeOf, memoryOf, startOf, isLaidOut, isGood}
+use Rattle.command.specs.Command.{blank, codeLength, isLaidOut, isGood}
 use Rattle.command.specs.Runs.{Taken, Takes}
 use Rattle.command.proofs.Input.{by-memory}
 
@@ -72,19 +69,14 @@ module _ (v : Version) (s : State) (code memory : List ℕ) (S : Held s) (file :
       by-memory (form ++ rest) (sym size) (omega (arith, total)) (sym code-length) short (omega (arith, total))
       ∙ le-leb (length (form ++ rest) - (length form + 2 + length code)) 32768 (omega (arith, total, small))
 
-  low : s .control < 2 ^ 16
-  unfolding highControlBit
-  low = leb-false (2 ^ 16) (s .control) control
+  blank-file : wrongVectorFile blank ≡ false
+  unfolding wrongVectorFile blank
+  blank-file = same (length (blank .vectors)) 2048 (length-table 2048 (λ k. 0))
 
   loads : load (take (sizeAt (form ++ rest)) (form ++ rest)) blank ≡ record { number = 0; state = s }
-  unfolding loadConditions wrongVectorFile blank
   loads =
-      let cut : take (sizeAt (form ++ rest)) (form ++ rest) ≡ form = rw size (take-at form rest (length form) (omega arith)) in
-      let none : NoneHolds (loadConditions form blank) =
-      (unequal (length (blank .vectors)) 2048 (length-table 2048 (λ k. 0)), source-right v s long low S) in
-      ap (λ (l : List ℕ). load l blank) cut
-      ∙ load-done form blank (none-holds (loadConditions form blank) 0 none)
-      ∙ ap (λ (x : State). record { number = 0; state = x }) (state-back v s long low S)
+      ap (λ (l : List ℕ). load l blank) (rw size (take-at form rest (length form) (omega arith)))
+      ∙ load-saved v s blank S file control blank-file
 
   taken : Taken s code memory (form ++ rest)
   unfolding isGood

@@ -1,17 +1,18 @@
--- Both ways of a saved form, over any version: `state-back` from a state to bytes and back again, `bytes-back` from bytes to a state and back
--- again. Each part goes by itself, since it is read at the place where it is written.
+-- Both ways of a saved form, over any version: `state-back` from a state to bytes and back, `bytes-back` from bytes to a state and back. Each
+-- part goes by itself, since it is read at the place where it is written.
 -- Assumes nothing.
 use Prim.Native.Nat.{ℕ, _+_, _*_, _^_, _≤_, _<_}
-use mathlib.Core.Bool.{false, not}
-use mathlib.Core.List.{List, [], _∷_, _++_}
+use mathlib.Core.Bool.{false}
+use mathlib.Core.List.{List, _∷_, _++_}
 use mathlib.Core.Path.{_≡_, refl, sym, ap, ap₂, _∙_}
 use native.Mathlib.Omega.{arith}
-use borrow.Author.Tests.{eqb-true, eq-eqb, lt-leb, not-false}
-use lib.Dec.{eqb, lit≤}
+use borrow.Author.Tests.{lt-leb}
+use lib.Dec.{lit≤}
 use lib.ListN.{length, getD, take, drop, length-drop, take-append-drop}
 use lib.Seq.{getD-take, getD-drop, drop-cons, drop-drop}
 use Rattle.lists.specs.Lists.{Each, table, NoneHolds}
-use Rattle.lists.proofs.Tables.{table-equal, length-table, getD-table}
+use Rattle.lists.proofs.Tests.{equal, same}
+use Rattle.lists.proofs.Tables.{table-equal, length-table, each-table}
 use Rattle.machine.specs.State.{State}
 use Rattle.machine.specs.Step.{highControlBit}
 use Rattle.forms.specs.declared.Version.{Version}
@@ -21,19 +22,12 @@ use Rattle.forms.specs.Numbers.{big, valueFrom, numberIn, registers}
 use Rattle.forms.specs.Form.{numbers, fileAt, file, content, savedForm, formSize, loadedState}
 use Rattle.forms.specs.Saved.{sizeAt, versionNumber, versionIn, stateIn, wrongSize, wrongLength, wrongFile, sourceConditions}
 use Rattle.forms.specs.Trips.{Held, Bytes}
-use Rattle.forms.proofs.Slices.{part-part, part-next, length-part, each-take, each-drop, each-part, each-from}
+use Rattle.forms.proofs.Slices.{part-part, part-next, length-part, each-drop, each-part}
 use Rattle.forms.proofs.Numbers.{value-big, big-value, value-below}
 use Rattle.forms.proofs.Registers.{read-registers, write-registers}
 use Rattle.forms.proofs.Files.{FileLaws, file-laws}
 use Rattle.forms.proofs.Places.{control-there, pointer-there, general-there, masks-there, length-content, length-saved, length-there}
 use Rattle.forms.proofs.Places.{version-there, numbers-there, file-there}
-
--- a condition that does not hold, as a fact
-pub equal : (a b : ℕ) → not (eqb a b) ≡ false → a ≡ b
-equal a b h = eqb-true a b (not-false (eqb a b) h)
-
-pub unequal : (a b : ℕ) → a ≡ b → not (eqb a b) ≡ false
-unequal a b e = ap not (eq-eqb a b e)
 
 -- the version of a version's number
 pub version-of : (v : Version) → versionOf (versionByte v) ≡ v
@@ -43,7 +37,7 @@ version-of Two = refl
 
 pub has-version : (v : Version) → noVersion (versionByte v) ≡ false
 unfolding noVersion
-has-version v = unequal (versionByte v) (versionByte (versionOf (versionByte v))) (ap versionByte (sym (version-of v)))
+has-version v = same (versionByte v) (versionByte (versionOf (versionByte v))) (ap versionByte (sym (version-of v)))
 
 -- n registers in a part of the bytes, and in the bytes
 pub registers-in : (bytes : List ℕ) (at n : ℕ)
@@ -127,9 +121,9 @@ module _ (v : Version) (s : State) (long : length (s .vectors) ≡ 2048) where
       rw number-there (has-version v),
       (
         rw (version-back, file-there v s)
-            (unequal (length (savedForm v s)) _ (length-saved v s ∙ ap (λ (k : ℕ). fileAt + k) (laws v .length-put (s .vectors) long))),
+            (same (length (savedForm v s)) _ (length-saved v s ∙ ap (λ (k : ℕ). fileAt + k) (laws v .length-put (s .vectors) long))),
         (
-          unequal (sizeAt (savedForm v s)) (length (savedForm v s)) (field-there ∙ sym (length-saved v s)),
+          same (sizeAt (savedForm v s)) (length (savedForm v s)) (field-there ∙ sym (length-saved v s)),
           (
             ap₂ (λ (w : Version) (l : List ℕ). file w .wrong l) version-back (file-there v s) ∙ laws v .right-put (s .vectors) long,
             (rw state-back (lt-leb (2 ^ 16) (s .control) low), tt),
@@ -193,9 +187,7 @@ module _ (bytes : List ℕ) (passed : NoneHolds (sourceConditions bytes)) where
 
     registers-held : (at n : ℕ) → at + 8 * n ≤ 209 → Each (λ x. x < 2 ^ 64) (table n (λ k. numberIn bytes (at + 8 * k) 8))
     registers-held at n h =
-        each-from (λ x. x < 2 ^ 64) (table n (λ k. numberIn bytes (at + 8 * k) 8)) 0 (λ k l.
-        let i : k < n = rw (length-table n (λ k. numberIn bytes (at + 8 * k) 8)) at l in
-        rw (getD-table n (λ k. numberIn bytes (at + 8 * k) 8) k 0 i) (number-held (at + 8 * k) 8 (omega arith)))
+        each-table (λ x. x < 2 ^ 64) n (λ k. numberIn bytes (at + 8 * k) 8) (λ k l. number-held (at + 8 * k) 8 (omega arith))
 
     -- registers of 64 bits hold it
     pub held : Held (stateIn bytes)

@@ -7,17 +7,17 @@ use mathlib.Core.List.{List, [], _∷_, _++_}
 use native.Mathlib.Nat.{mod-eq-of-lt, mul-comm}
 use native.Mathlib.Numerals.{add-one}
 use native.Mathlib.Omega.{arith}
-use borrow.Author.Tests.{not-false, eqb-true}
+use borrow.Author.Tests.{not-false}
 use lib.Dec.{eqb, lit≤}
 use lib.ListN.{length, take, drop, length-append, length-drop, take-append-drop}
 use lib.Seq.{take-all, take-at, drop-at, drop-drop, length-take-le}
 use Rattle.lists.specs.Lists.{some, tableFrom, table, binary}
-use Rattle.lists.proofs.Tests.{either, neither}
+use Rattle.lists.proofs.Tests.{either, neither, equal}
 use Rattle.lists.proofs.Tables.{table-equal, length-table, some-next}
 use Rattle.lists.proofs.Filling.{found-none, nowhere}
 use Rattle.evex.specs.Bits.{isSet}
 use Rattle.machine.specs.State.{registerAt}
-use Rattle.forms.specs.Numbers.{big, numberIn, joined}
+use Rattle.forms.specs.Numbers.{big, joined}
 use Rattle.forms.specs.File.{FileForm, whole, register, present, ifPresent, presence, pack, sumTo, wordIn, placeOf, packedAt, zeros}
 use Rattle.forms.specs.File.{unpack, packedSize, isEmpty, hasEmpty, packed, fileForm}
 use Rattle.forms.specs.Trips.{Bytes}
@@ -25,7 +25,7 @@ use Rattle.forms.proofs.Slices.{length-part, each-take}
 use Rattle.forms.proofs.Numbers.{length-big, value-big, big-value, value-below}
 use Rattle.forms.proofs.Pieces.{sum-equal, sum-most, sum-within, joined-equal, length-sized, joined-part, joined-cut, length-even}
 use Rattle.forms.proofs.Pieces.{even-part, even-cut}
-use Rattle.forms.proofs.Words.{digit, word-below, word-bit, word-of-bits}
+use Rattle.forms.proofs.Words.{word-below, word-bit, word-of-bits}
 
 -- What is supposed: of a file, that it has 2,048 bytes; of bytes, that they are as many as they should be and nothing else is wrong.
 pub record FileLaws (f : FileForm) : Type 0 where
@@ -49,14 +49,11 @@ whole-laws =
 
 -- ---- presence is not being all zero
 
-zero-byte : (b : ℕ) → not (eqb b 0) ≡ false → b ≡ 0
-zero-byte b h = eqb-true b 0 (not-false (eqb b 0) h)
-
 absent-from : (i : ℕ) (l : List ℕ) → some (λ b. not (eqb b 0)) l ≡ false → l ≡ tableFrom i (length l) (λ k. 0)
 absent-from i [] e = refl
 absent-from i (b ∷ l) e =
     let h : (not (eqb b 0) ≡ false) × (some (λ x. not (eqb x 0)) l ≡ false) = neither (not (eqb b 0)) (some (λ x. not (eqb x 0)) l) e in
-    ap₂ _∷_ (zero-byte b (h .0)) (absent-from (suc i) l (h .1))
+    ap₂ _∷_ (equal b 0 (h .0)) (absent-from (suc i) l (h .1))
 
 absent-zeros : (l : List ℕ) → present l ≡ false → l ≡ zeros (length l)
 unfolding present table

@@ -1,9 +1,9 @@
 -- The bytes of a number and the number of bytes: each is the other's inverse, by one byte more at a time.
 -- Assumes nothing.
 use Prim.Native.Nat.{ℕ, zero, suc, _+_, _-_, _*_, _/_, _%_, _^_, _≤_, _<_}
-use mathlib.Core.Path.{_≡_, refl, sym, ap, ap₂, _∙_}
+use mathlib.Core.Path.{_≡_, refl, ap, ap₂, _∙_}
 use mathlib.Core.List.{List, [], _∷_, _++_}
-use native.Mathlib.Nat.{pow-suc, pow-succ', pow-le-pow-right, lt-of-lt-of-le, pow-zero, one-le-pow, mul-assoc, add-mul, add-assoc}
+use native.Mathlib.Nat.{pow-succ', pow-zero, one-le-pow, mul-assoc, add-mul, add-assoc}
 use native.Mathlib.Nat.{mod-eq-of-lt}
 use native.Mathlib.Numerals.{add-one}
 use native.Mathlib.Omega.{arith}
@@ -11,7 +11,7 @@ use lib.Arith.{digits-lt, digits-div, digits-mod, mod-mul}
 use lib.Dec.{lit≤}
 use lib.ListN.{length, getD, take}
 use lib.Pow.{pow-add}
-use lib.Seq.{take-suc, take-all}
+use lib.Seq.{take-suc}
 use Rattle.forms.specs.Numbers.{big, valueFrom}
 use Rattle.lists.specs.Lists.{Each}
 

@@ -2,13 +2,14 @@
 -- Assumes nothing.
 use Prim.Native.Nat.{ℕ, suc}
 use mathlib.Core.Path.{_≡_, refl}
-use mathlib.Core.Bool.{Bool, true, false, cond}
+use mathlib.Core.Bool.{Bool, cond}
 use mathlib.Core.List.{List, [], _++_, append-nil}
 use mathlib.Core.Logic.{_≢_, inl, inr}
 use native.Mathlib.Omega.{arith}
 use borrow.Author.Tests.{ne-eqb}
 use Rattle.lists.specs.Lists.{firstOf}
 use Rattle.lists.proofs.First.{NonZero}
+use Rattle.lists.proofs.Tests.{either}
 use Rattle.machine.specs.State.{State}
 use Rattle.machine.proofs.First.{in-order}
 use Rattle.forms.specs.Version.{noVersion}
@@ -56,8 +57,7 @@ move-refusals n bytes target = (
 
 -- an earlier condition with the same number changes nothing
 pub pick : (k : ℕ) (a : Bool) {m : ℕ} → m ≡ k → cond a k m ≡ k
-pick k true e = refl
-pick k false e = e
+pick k a e = either (λ x. x ≡ k) a refl e
 
 -- whatever follows them, the four conditions give 10
 ten : (bytes : List ℕ) (later : List (Bool × ℕ)) → NoForm bytes → firstOf (sourceConditions bytes ++ later) 0 ≡ 10

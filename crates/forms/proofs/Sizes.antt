@@ -1,31 +1,33 @@
 -- The statements of specs/Sizes.antt: by the lengths of the parts.
 -- Assumes nothing.
-use Prim.Native.Nat.{ℕ, _+_, _≤_}
-use mathlib.Core.Bool.{Bool, true, false, cond, not}
-use mathlib.Core.List.{List, [], _∷_, _++_}
+use Prim.Native.Nat.{ℕ, _+_}
+use mathlib.Core.Bool.{Bool, true, false, not}
+use mathlib.Core.List.{List, [], _∷_}
 use mathlib.Core.Logic.{_≢_}
 use mathlib.Core.Path.{_≡_, refl, sym, ap, _∙_}
 use native.Mathlib.Omega.{arith}
 use borrow.Author.Tests.{eqb-true}
 use lib.Dec.{eqb}
-use lib.ListN.{length, take, drop}
+use lib.ListN.{length}
 use lib.Seq.{take-append-le}
 use Rattle.lists.specs.Lists.{firstOf, NoneHolds}
 use Rattle.lists.proofs.First.{none-holds, holds-none}
+use Rattle.lists.proofs.Tests.{equal, same}
 use Rattle.machine.specs.State.{State}
-use Rattle.machine.specs.Step.{wrongVectorFile, highControlBit}
+use Rattle.machine.specs.Step.{wrongVectorFile}
 use Rattle.forms.specs.declared.Version.{Version}
-use Rattle.forms.specs.declared.Version.the-variants.{One, Two}
+use Rattle.forms.specs.declared.Version.the-variants.{One}
 use Rattle.forms.specs.Version.{versionOf, noVersion}
 use Rattle.forms.specs.Numbers.{valueFrom}
 use Rattle.forms.specs.File.{fileForm}
-use Rattle.forms.specs.Form.{fileAt, file, savedForm, formSize}
-use Rattle.forms.specs.Saved.{wrongTarget, saveConditions, save, sizeAt, stateIn, sourceConditions, beforeTarget, sizeIf, savedSize, movedSize}
+use Rattle.forms.specs.Form.{savedForm, formSize}
+use Rattle.forms.specs.Saved.{wrongTarget, saveConditions, save, sizeAt, stateIn, sourceConditions, beforeTarget}
+use Rattle.forms.specs.Saved.{sizeIf, savedSize, movedSize}
 use Rattle.forms.specs.Sizes.{FormSizes, SizesNeeded, FormsInFront}
 use Rattle.forms.proofs.Files.{pack-count}
 use Rattle.forms.proofs.Places.{length-content, length-saved}
-use Rattle.forms.proofs.Apart.{equal, unequal, most, field-there}
-use Rattle.forms.proofs.Answered.{save-done, move-done}
+use Rattle.forms.proofs.Apart.{most, field-there}
+use Rattle.forms.proofs.Answered.{save-done}
 use Rattle.forms.proofs.Refusals.{save-non-zero, source-non-zero}
 use Rattle.forms.proofs.Trips.{Moved, moved, move-goes}
 
@@ -104,7 +106,7 @@ sizes-needed = (
         let given : (noVersion n ≡ false) × (wrongVectorFile s ≡ false) = size-given n s (h .0) in
         let size : savedSize n (s .vectors) ≡ formSize (versionOf n) (s .vectors) = saved-size n s (given .0) (given .1) in
         ap (λ r. r .number) (save-done n s target (none-holds (saveConditions n s target) 0
-        (given .0, (given .1, (unequal (length target) _ (h .1 ∙ size), (h .2, tt))))))),
+        (given .0, (given .1, (same (length target) _ (h .1 ∙ size), (h .2, tt))))))),
   )),
   (λ n bytes target. (
     (λ done.
@@ -119,7 +121,7 @@ sizes-needed = (
         ap (λ r. r .number) (move-goes n bytes target (record {
           asked = given .0;
           source = given .1;
-          room = unequal (length target) _ (h .1 ∙ size);
+          room = same (length target) _ (h .1 ∙ size);
         }))),
   )),
 )

@@ -55,7 +55,3 @@ pub each-at : (P : ℕ → Type 0) (l : List ℕ) (k d : ℕ) → Each P l → k
 each-at P [] k d h i = absurd (omega arith)
 each-at P (x ∷ l) zero d h i = h .0
 each-at P (x ∷ l) (suc k) d h i = each-at P l k d (h .1) (omega arith)
-
-pub each-from : (P : ℕ → Type 0) (l : List ℕ) (d : ℕ) → ((k : ℕ) → k < length l → P (getD l k d)) → Each P l
-each-from P [] d h = tt
-each-from P (x ∷ l) d h = (h 0 (omega arith), each-from P l d (λ k i. h (suc k) (omega arith)))

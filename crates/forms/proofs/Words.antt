@@ -1,21 +1,19 @@
 -- Numbers by their bits: which bits the number with given ones has, and that it is below 2 to their count; a number is that of its own.
 -- Assumes nothing.
-use Prim.Native.Nat.{ℕ, zero, suc, _+_, _*_, _/_, _%_, _<_, _≤_, _^_}
+use Prim.Native.Nat.{ℕ, zero, suc, _+_, _/_, _%_, _<_, _≤_, _^_}
 use mathlib.Core.Bool.{Bool, true, false, cond}
-use mathlib.Core.Path.{_≡_, refl, subst, _∙_}
+use mathlib.Core.Path.{_≡_, refl}
 use mathlib.Core.Logic.{_⊎_, inl, inr}
 use native.Mathlib.Nat.{eq-or-lt-of-le}
 use native.Mathlib.Numerals.{add-one}
 use native.Mathlib.Omega.{arith}
 use lib.Dec.{eqb, lit≤}
-use lib.ListN.{length, getD}
 use lib.Pow.{mod-pow-add}
 use Rattle.lists.specs.Lists.{Each, table, binary}
 use Rattle.lists.proofs.Tests.{either}
-use Rattle.lists.proofs.Tables.{getD-table, length-table}
+use Rattle.lists.proofs.Tables.{getD-table, each-table}
 use Rattle.lists.proofs.Binary.{digit-is, binary-next, binary-below}
 use Rattle.evex.specs.Bits.{isSet}
-use Rattle.forms.proofs.Slices.{each-from}
 
 abbrev pub digit : (ℕ → Bool) → ℕ → ℕ
 digit p i = cond (p i) 1 0
@@ -30,10 +28,7 @@ pub word-below : (n : ℕ) (p : ℕ → Bool) → wordOf n p < 2 ^ n
 word-below n p = binary-below n (digit p) (small p)
 
 digits : (n : ℕ) (p : ℕ → Bool) → Each (λ b. b ≤ 1) (table n (digit p))
-digits n p =
-    each-from (λ b. b ≤ 1) (table n (digit p)) 0 (λ k h.
-    let i : k < n = rw (length-table n (digit p)) at h in
-    rw (getD-table n (digit p) k 0 i) (small p k))
+digits n p = each-table (λ b. b ≤ 1) n (digit p) (λ k h. small p k)
 
 is-digit : (b : Bool) → eqb (cond b 1 0) 1 ≡ b
 is-digit true = refl

@@ -9,7 +9,8 @@ use Rattle.machine.specs.State.{State}
 use Rattle.machine.specs.Step.{wrongVectorFile}
 use Rattle.machine.specs.Answers.{InOrder}
 use Rattle.forms.specs.Version.{noVersion}
-use Rattle.forms.specs.Saved.{saveConditions, save, versionNumber, wrongSize, wrongLength, wrongFile, loadConditions, load, moveConditions, move}
+use Rattle.forms.specs.Saved.{saveConditions, save, versionNumber, wrongSize, wrongLength, wrongFile, loadConditions, load}
+use Rattle.forms.specs.Saved.{moveConditions, move}
 
 -- R9.4, R9.6: of every save.
 abbrev pub SaveRefusals : Type 0

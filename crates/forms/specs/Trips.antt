@@ -11,7 +11,8 @@ use Rattle.machine.specs.Step.{wrongVectorFile}
 use Rattle.forms.specs.Version.{noVersion}
 use Rattle.forms.specs.Saved.{save, load, move, versionNumber}
 
--- R9.7: a state that the machine's registers can hold (R1.4, R1.7), which is what the round trips suppose of a state. Its vector file may have any size.
+-- R9.7: a state that the machine's registers can hold (R1.4, R1.7), which is what the round trips suppose of a state. Its vector file may
+-- have any size.
 pub record Held (s : State) : Type 0 where
   pub masksCount : length (s .masks) ≡ 8
   pub masks : Each (λ m. m < 2 ^ 64) (s .masks)

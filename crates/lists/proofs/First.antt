@@ -1,7 +1,7 @@
 -- Laws of `firstOf`, what stands beside the first condition that holds.
 -- Assumes nothing.
-use Prim.Native.Nat.{ℕ, suc}
-use mathlib.Core.Path.{_≡_, refl}
+use Prim.Native.Nat.{ℕ, zero, suc}
+use mathlib.Core.Path.{_≡_, refl, _∙_}
 use mathlib.Core.Logic.{_≢_}
 use mathlib.Core.Bool.{Bool, true, false, cond}
 use mathlib.Core.List.{List, [], _∷_, _++_}
@@ -22,6 +22,11 @@ first-found (x ∷ xs) n m e = go (x .0) (first-found xs n m) e
         → cond t (x .1) (firstOf xs m) ≡ suc n
     go true later e = e
     go false later e = later e
+
+-- so it is the number of both lists
+pub first-decides : (xs ys : List (Bool × ℕ)) (k : ℕ) → k ≢ 0 → firstOf xs 0 ≡ k → firstOf (xs ++ ys) 0 ≡ k
+first-decides xs ys zero h e = absurd (h refl)
+first-decides xs ys (suc k) h e = first-append xs ys 0 ∙ first-found xs k (firstOf ys 0) e
 
 -- ---- which condition it was
 
@@ -48,3 +53,8 @@ holds-none (c ∷ cs) h e = go (c .0) refl (holds-none cs (h .1)) e
 pub none-append : {A : Type 0} (xs ys : List (Bool × A)) → NoneHolds (xs ++ ys) → NoneHolds xs × NoneHolds ys
 none-append [] ys h = (tt, h)
 none-append (x ∷ xs) ys h = let l : NoneHolds xs × NoneHolds ys = none-append xs ys (h .1) in ((h .0, l .0), l .1)
+
+-- and the other way round
+pub none-both : {A : Type 0} (xs ys : List (Bool × A)) → NoneHolds xs → NoneHolds ys → NoneHolds (xs ++ ys)
+none-both [] ys h k = k
+none-both (x ∷ xs) ys h k = (h .0, none-both xs ys (h .1) k)

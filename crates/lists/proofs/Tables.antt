@@ -17,7 +17,7 @@ use lib.ListN.{length, getD, take, drop, List·getD-append}
 use lib.Pow.{pow-pos}
 use lib.Seq.{paste, ext-getD, take-all, length-paste-head, getD-append-add, getD-take, getD-drop}
 use lib.Seq.{length-take-le}
-use Rattle.lists.specs.Lists.{some, orAll, tableFrom, table, numberAt}
+use Rattle.lists.specs.Lists.{some, orAll, tableFrom, table, Each}
 
 -- ---- tables
 
@@ -173,6 +173,16 @@ pub or-meets : (m : ℕ) (xs : List ℕ) → meets m (orAll xs) ≡ some (meets 
 or-meets m [] = refl
 or-meets m (x ∷ xs) = rw (meets-or m x (orAll xs), or-meets m xs)
 
+-- ---- what holds of each element
+
+each-from : (P : ℕ → Type 0) (i n : ℕ) (f : ℕ → ℕ) → ((k : ℕ) → i ≤ k → k < i + n → P (f k)) → Each P (tableFrom i n f)
+each-from P i zero f h = tt
+each-from P i (suc n) f h = (h i (omega arith) (omega arith), each-from P (suc i) n f (λ k a b. h k (omega arith) (omega arith)))
+
+pub each-table : (P : ℕ → Type 0) (n : ℕ) (f : ℕ → ℕ) → ((k : ℕ) → k < n → P (f k)) → Each P (table n f)
+unfolding table
+each-table P n f h = each-from P 0 n f (λ k a b. h k (omega arith))
+
 -- ---- parts of a list
 
 module _ {A : Type 0} where
@@ -185,10 +195,6 @@ module _ {A : Type 0} where
   paste-whole l at s n e =
       let h : length s ≤ n = omega arith in
       ap (λ (r : List A). take at l ++ r ++ drop (at + n) l) (take-all n s h) ∙ append-assoc (take at l) s (drop (at + n) l)
-
--- a half, the low byte first
-pub two-bytes : (l : List ℕ) (p q : ℕ) → numberAt l (p ∷ q ∷ []) ≡ getD l p 0 + getD l q 0 * 256
-two-bytes l p q = omega arith
 
 -- ---- a paste, at each place
 

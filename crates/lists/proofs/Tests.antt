@@ -1,7 +1,10 @@
--- What a test picks, and what two tests say.
+-- What a test picks, what two tests say, and tests of numbers.
 -- Assumes nothing.
-use mathlib.Core.Path.{_≡_, refl}
-use mathlib.Core.Bool.{Bool, true, false, cond, _||_, true≢false}
+use Prim.Native.Nat.{ℕ}
+use mathlib.Core.Path.{_≡_, refl, ap}
+use mathlib.Core.Bool.{Bool, true, false, cond, not, _||_, true≢false}
+use borrow.Author.Tests.{eqb-true, eq-eqb, ne-eqb, not-false}
+use lib.Dec.{eqb}
 
 module _ {A : Type 0} where
   -- what holds of both holds of the one that a test picks
@@ -28,3 +31,14 @@ module _ {A : Type 0} where
 pub neither : (a b : Bool) → (a || b) ≡ false → (a ≡ false) × (b ≡ false)
 neither true b e = absurd (true≢false e)
 neither false b e = (refl, e)
+
+-- ---- whether two numbers differ, as a condition
+
+pub equal : (a b : ℕ) → not (eqb a b) ≡ false → a ≡ b
+equal a b h = eqb-true a b (not-false (eqb a b) h)
+
+pub same : (a b : ℕ) → a ≡ b → not (eqb a b) ≡ false
+same a b e = ap not (eq-eqb a b e)
+
+pub differ : (a b : ℕ) → (a ≡ b → ⊥) → not (eqb a b) ≡ true
+differ a b h = ap not (ne-eqb a b h)

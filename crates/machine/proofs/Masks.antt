@@ -15,7 +15,7 @@ use lib.Seq.{getD-set-same, getD-set-other}
 use Rattle.half.specs.Comparison.{relation, predicateOf, holds, halfCompare}
 use Rattle.lists.specs.Lists.{Each, table, binary}
 use Rattle.lists.proofs.Tests.{either}
-use Rattle.lists.proofs.Tables.{getD-table, length-table, member-table}
+use Rattle.lists.proofs.Tables.{getD-table, length-table, each-table}
 use Rattle.lists.proofs.Binary.{digit-is}
 use Rattle.evex.specs.Bits.{isSet}
 use Rattle.evex.specs.declared.Operation.{Operation}
@@ -34,7 +34,6 @@ use Rattle.machine.specs.Step.{completed}
 use Rattle.machine.specs.TwoRuns.{IsDecoded, SwitchesOn}
 use Rattle.machine.specs.Masks.{MasksAfter, Masks}
 use Rattle.machine.specs.declared.Environment.{Environment}
-use Rattle.machine.proofs.Agree.{each-of}
 use Rattle.machine.proofs.Ends.{step-done}
 use Rattle.machine.proofs.OffLanes.{element-below}
 
@@ -57,10 +56,7 @@ module _ (s : State) (code : List ℕ) (i : Instruction) (fields : decoded code 
 
     digits : Each (λ b. b ≤ 1) (results s i g)
     unfolding results
-    digits =
-        each-of (table 32 lane) (λ x m.
-        let k = member-table 32 lane m in
-        rw (k .2) (lane-digit s i g compares (k .0)))
+    digits = each-table (λ b. b ≤ 1) 32 lane (λ j h. lane-digit s i g compares j)
 
     -- a lane that is on, and gives 1
     is-lane : (j : ℕ) → (getD (results s i g) j 0 ≡ 1) ↔ (SwitchesOn s i j × (laneOf s i g j .value ≡ 1))

@@ -1,18 +1,17 @@
 -- The same for the loops that pack a file, unpack it, and look for a marked register that is all zero.
 -- Assumes nothing.
 use Prim.Native.Nat.{ℕ, _+_, _-_, _*_, _≤_, _<_}
-use mathlib.Core.Bool.{Bool, true, false, cond, not, _&&_, _||_}
+use mathlib.Core.Bool.{Bool, true, false, cond, not}
 use mathlib.Core.Path.{_≡_, refl, sym, ap, _∙_}
-use mathlib.Core.List.{List, [], _++_}
+use mathlib.Core.List.{List, _++_}
 use native.Mathlib.Omega.{arith}
-use lib.Dec.{lit≤}
 use lib.ListN.{length, take, drop, take-append-drop, length-append, length-drop}
 use lib.Seq.{length-take-le, take-at, drop-at}
 use Rattle.lists.specs.Lists.{some, table}
 use Rattle.lists.proofs.Tables.{table-member, some-has, some-next}
 use Rattle.evex.specs.Bits.{isSet}
 use Rattle.forms.specs.Numbers.{big, joined}
-use Rattle.forms.specs.File.{present, register, ifPresent, presence, pack, sumTo, wordIn, placeOf, packedAt, zeros, unpack, packedSize}
+use Rattle.forms.specs.File.{present, register, ifPresent, presence, pack, wordIn, placeOf, zeros, unpack, packedSize}
 use Rattle.forms.specs.File.{isEmpty, hasEmpty, whole, packed, fileForm}
 use Rattle.forms.proofs.Numbers.{length-big}
 use Rattle.forms.proofs.Pieces.{length-joined, joined-none, joined-next, joined-part, sum-within}

@@ -130,7 +130,7 @@ pub(crate) fn size_in(part: &[u8]) -> usize
     size_by(word_in(part))
 }
 
-// Register i, at a place, is marked and has no byte that is not zero.
+// Register i, at a place, is marked and all zero.
 fn is_empty(word: u32, i: usize, part: &[u8], at: usize) -> bool
     requires { ⌜ (i < 32)
         × (word ≡ wordIn (now part))

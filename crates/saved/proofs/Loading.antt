@@ -1,25 +1,26 @@
 -- The code of a load: the answer after each test, and what it has read where none refused.
 -- Assumes nothing.
 use Prim.Native.Nat.{ℕ, _+_, _-_, _*_, _^_, _≤_, _<_}
-use mathlib.Core.Bool.{Bool, true, false, cond, not}
+use mathlib.Core.Bool.{Bool, true, false, not}
 use mathlib.Core.Path.{_≡_, refl, sym, ap, _∙_}
-use mathlib.Core.List.{List, []}
+use mathlib.Core.List.{List}
 use native.Mathlib.Omega.{arith}
 use borrow.Author.Tests.{ne-eqb, le-leb, lt-leb}
 use lib.Dec.{eqb, lit≤}
-use lib.ListN.{length, getD, take, drop, length-drop}
+use lib.ListN.{length, take, drop, length-drop}
 use lib.Seq.{take-all, length-take-le}
 use Rattle.lists.specs.Lists.{firstOf, table, NoneHolds}
-use Rattle.lists.proofs.First.{none-holds, holds-none}
+use Rattle.lists.proofs.First.{holds-none}
 use Rattle.machine.specs.State.{State, stateOf}
 use Rattle.machine.specs.Step.{wrongVectorFile, highControlBit}
-use Rattle.forms.specs.Version.{isPacked, versionOf, noVersion}
+use Rattle.forms.specs.Version.{isPacked, noVersion}
 use Rattle.forms.specs.Numbers.{valueFrom, numberIn}
 use Rattle.forms.specs.File.{packedSize, fileForm}
 use Rattle.forms.specs.Form.{fileAt, file, loadedState}
 use Rattle.forms.specs.Saved.{sizeAt, versionNumber, versionIn, stateIn, wrongSize, wrongLength, wrongFile, sourceConditions}
 use Rattle.forms.specs.Saved.{loadConditions, load}
-use Rattle.forms.proofs.Apart.{equal, unequal, registers-in, file-size, vectors-long}
+use Rattle.lists.proofs.Tests.{same, differ}
+use Rattle.forms.proofs.Apart.{registers-in, file-size}
 use Rattle.forms.proofs.Answered.{load-done, load-refused}
 use Rattle.forms.proofs.Refusals.{source-non-zero, pick}
 use Rattle.parts.proofs.Reading.{four-bytes}
@@ -36,9 +37,6 @@ unfolding sizeAt
 field-there l {x} h e = (rw (e .0), omega (arith, four-bytes x 4 (rw (length-take-le 4 l h) at (e .1)) (omega arith)))
 
 -- ---- whether the bytes are a form, after each test
-
-differ : (a b : ℕ) → (a ≡ b → ⊥) → not (eqb a b) ≡ true
-differ a b h = ap not (ne-eqb a b h)
 
 -- a file takes 4 bytes or more
 least : (packed : Bool) (l : List ℕ) → 4 ≤ fileForm packed .size l
@@ -92,11 +90,6 @@ module _ (bytes : List ℕ) where
         let k : n ≡ file (versionIn bytes) .size (drop fileAt bytes) = e ∙ size-lent in
         by-size (differ (length bytes) (fileAt + file (versionIn bytes) .size (drop fileAt bytes)) (λ d. h (omega arith)))
 
-    -- the file has its size, as it is lent
-    pub file-room : {n : ℕ} → n ≡ fileForm packed .size (lentFile bytes) → length bytes ≡ 209 + n
-        → length (lentFile bytes) ≡ fileForm packed .size (lentFile bytes)
-    file-room e h = sym (sym (ap length (file-lent bytes) ∙ length-drop fileAt bytes ∙ omega arith) ∙ refl) ∙ e
-
     wrong-lent : {w : Bool} → w ≡ fileForm packed .wrong (lentFile bytes) → wrongFile bytes ≡ w
     unfolding wrongFile
     wrong-lent e = sym (e ∙ rw (pack, file-lent bytes))
@@ -115,8 +108,8 @@ module _ (bytes : List ℕ) where
     right asked en hn ek hk ew hw =
         record {
           named = asked;
-          size = unequal (length bytes) (fileAt + file (versionIn bytes) .size (drop fileAt bytes)) (omega (arith, en ∙ size-lent));
-          field = unequal (sizeAt bytes) (length bytes) (sym ek ∙ hk);
+          size = same (length bytes) (fileAt + file (versionIn bytes) .size (drop fileAt bytes)) (omega (arith, en ∙ size-lent));
+          field = same (sizeAt bytes) (length bytes) (sym ek ∙ hk);
           file = wrong-lent ew ∙ hw;
         }
 

@@ -3,7 +3,7 @@
 use Prim.Native.Nat.{ℕ, _+_}
 use mathlib.Core.Bool.{Bool, true, false, cond, not}
 use mathlib.Core.Path.{_≡_, refl, sym, ap, _∙_}
-use mathlib.Core.List.{List, _∷_}
+use mathlib.Core.List.{List}
 use borrow.Author.Tests.{ne-eqb, not-true}
 use lib.ListN.{length}
 use Rattle.lists.specs.Lists.{firstOf, NoneHolds}
@@ -14,7 +14,8 @@ use Rattle.forms.specs.Version.{isPacked, versionOf, noVersion}
 use Rattle.forms.specs.File.{placeOf}
 use Rattle.forms.specs.Form.{fileAt, formSize}
 use Rattle.forms.specs.Saved.{Save, save, Load, load, stateIn, sourceConditions, moveConditions, move, movedSize}
-use Rattle.forms.proofs.Apart.{unequal, vectors-long}
+use Rattle.lists.proofs.Tests.{same}
+use Rattle.forms.proofs.Apart.{vectors-long}
 use Rattle.forms.proofs.Answered.{move-refused}
 use Rattle.forms.proofs.Trips.{move-is-save-after-load}
 use Rattle.saved.proofs.Saving.{size-by-word}
@@ -28,7 +29,7 @@ module _ (n : ℕ) (bytes target : List ℕ) (t : State) (asked : noVersion n �
     (answer : record { number = k; state = s } ≡ load bytes t) where
   file : wrongVectorFile t ≡ false
   unfolding wrongVectorFile
-  file = unequal (length (t .vectors)) 2048 long
+  file = same (length (t .vectors)) 2048 long
 
   number : k ≡ load bytes t .number
   number = ap (λ (l : Load). l .number) answer

@@ -19,7 +19,6 @@ use Rattle.forms.specs.Numbers.{big, registers}
 use Rattle.forms.specs.File.{presence, placeOf, fileForm}
 use Rattle.forms.specs.Form.{numbers, fileAt, file, content, savedForm, formSize}
 use Rattle.forms.specs.Saved.{wrongTarget, saveConditions, save, savedSize}
-use Rattle.forms.proofs.Slices.{length-part}
 use Rattle.forms.proofs.Files.{pack-size}
 use Rattle.forms.proofs.Places.{length-numbers, control-there, pointer-there, general-there, masks-there, length-content, length-saved}
 use Rattle.forms.proofs.Places.{length-there, version-there, numbers-there, file-there}
@@ -130,10 +129,6 @@ module _ (v : Version) (vectors d : List ℕ) (size : length d ≡ formSize v ve
   pub file-length : length d - 209 ≡ length (file v .put vectors)
   unfolding formSize
   file-length = omega (arith, size)
-
-  -- the part for the file, as it is lent
-  pub file-room : (l : List ℕ) → length l ≡ length d → length (take (length d - 209) (drop 209 l)) ≡ length (file v .put vectors)
-  file-room l h = length-part 209 (length d - 209) l (omega (arith, at-least)) ∙ file-length
 
 module _ (v : Version) (s : State) (d : List ℕ) (size : length d ≡ formSize v (s .vectors)) where
   counted : length d ≡ 4 + length (content v s)
