@@ -380,7 +380,7 @@ static void pretend(const room *r) {
 
 /*
  * What a load is to answer (R9.5). Bytes are a saved form exactly where they are, length and all,
- * the form of the state that stands in them: a wrong first field or word, or a register that is
+ * the form of the state that stands in them: a wrong length field or word, or a register that is
  * marked and zero, is in no form of a state.
  */
 static uint32_t load_answer(const form *saved, size_t vectors_length) {

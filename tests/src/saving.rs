@@ -120,7 +120,7 @@ pub fn done_number(call: Call, state: &Machine) -> u32 {
     }
 }
 
-/// Writes the first field of a form.
+/// Writes the length field of a form.
 pub fn set_length(bytes: &mut [u8], following: u32) {
     bytes[..4].copy_from_slice(&following.to_be_bytes());
 }

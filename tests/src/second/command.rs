@@ -33,7 +33,7 @@ fn parts(input: &[u8]) -> Option<(Machine, &[u8], &[u8])> {
     Some((machine, code, memory))
 }
 
-/// R9.13: how many bytes the saved form in front has, by its own first field.
+/// R9.13: how many bytes the saved form in front has, by its own length field.
 pub fn saved_size(input: &[u8]) -> Option<usize> {
     let following = take(&mut &input[..], 4)?;
     usize::try_from(4 + following).ok()
