@@ -84,19 +84,23 @@ module _ (v : Version) (s : State) (long : length (s .vectors) ≡ 2048) where
         ap (valueFrom 0) (inside 4 8 (lit≤ tt) ∙ pointer-there (s .control) (s .pointer) (s .general) (s .masks))
         ∙ value-big 8 (s .pointer) (S .pointer)
 
+    registers-read : (at n : ℕ) (values : List ℕ) → at + 8 * n ≤ 204
+        → take (8 * n) (drop at (numbers (s .control) (s .pointer) (s .general) (s .masks))) ≡ registers n values
+        → length values ≡ n → Each (λ x. x < 2 ^ 64) values → table n (λ k. numberIn (savedForm v s) (5 + at + 8 * k) 8) ≡ values
+    registers-read at n values h there count each =
+        sym (registers-in (savedForm v s) (5 + at) n)
+        ∙ ap (λ (l : List ℕ). table n (λ k. numberIn l (8 * k) 8)) (inside at (8 * n) h ∙ there)
+        ∙ read-registers n values count each
+
     general-read : table 16 (λ k. numberIn (savedForm v s) (17 + 8 * k) 8) ≡ s .general
     general-read =
-        sym (registers-in (savedForm v s) 17 16)
-        ∙ ap (λ (l : List ℕ). table 16 (λ k. numberIn l (8 * k) 8))
-        (inside 12 128 (lit≤ tt) ∙ general-there (s .control) (s .pointer) (s .general) (s .masks))
-        ∙ read-registers 16 (s .general) (S .generalCount) (S .general)
+        registers-read 12 16 (s .general) (lit≤ tt) (general-there (s .control) (s .pointer) (s .general) (s .masks))
+        (S .generalCount) (S .general)
 
     masks-read : table 8 (λ k. numberIn (savedForm v s) (145 + 8 * k) 8) ≡ s .masks
     masks-read =
-        sym (registers-in (savedForm v s) 145 8)
-        ∙ ap (λ (l : List ℕ). table 8 (λ k. numberIn l (8 * k) 8))
-        (inside 140 64 (lit≤ tt) ∙ masks-there (s .control) (s .pointer) (s .general) (s .masks))
-        ∙ read-registers 8 (s .masks) (S .masksCount) (S .masks)
+        registers-read 140 8 (s .masks) (lit≤ tt) (masks-there (s .control) (s .pointer) (s .general) (s .masks))
+        (S .masksCount) (S .masks)
 
     vectors-read : file v .get (drop fileAt (savedForm v s)) ≡ s .vectors
     vectors-read = ap (file v .get) (file-there v s) ∙ laws v .get-put (s .vectors) long
