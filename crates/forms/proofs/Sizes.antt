@@ -1,7 +1,7 @@
 -- The statements of specs/Sizes.antt: by the lengths of the parts.
 -- Assumes nothing.
 use Prim.Native.Nat.{ℕ, _+_}
-use mathlib.Core.Bool.{Bool, true, false, not}
+use mathlib.Core.Bool.{Bool, true, false}
 use mathlib.Core.List.{List, [], _∷_}
 use mathlib.Core.Logic.{_≢_}
 use mathlib.Core.Path.{_≡_, refl, sym, ap, _∙_}
@@ -68,7 +68,7 @@ saved-size n s a b = rw (a, b)
 -- where a size is given, the version and the file are right
 size-given : (n : ℕ) (s : State) → savedSize n (s .vectors) ≢ 0 → (noVersion n ≡ false) × (wrongVectorFile s ≡ false)
 unfolding savedSize wrongVectorFile
-size-given n s h = go (noVersion n) (not (eqb (length (s .vectors)) 2048)) h
+size-given n s h = go (noVersion n) (wrongVectorFile s) h
   where
     go : (a b : Bool) → sizeIf (firstOf ((a, 10) ∷ (b, 1) ∷ []) 0) (formSize (versionOf n) (s .vectors)) ≢ 0 → (a ≡ false) × (b ≡ false)
     go true b k = absurd (k refl)

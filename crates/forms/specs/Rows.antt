@@ -31,7 +31,7 @@ sample =
     }
 
 pub record FormRows : Type 0 where
-  -- the first nine bytes: 2,253 and version 1, 337 and version 2, the control word
+  -- the first nine bytes: the length field, the version, the control word
   pub one : take 9 (savedForm One sample) ≡ 0 ∷ 0 ∷ 0x08 ∷ 0xCD ∷ 1 ∷ 0 ∷ 0 ∷ 0x1F ∷ 0x80 ∷ []
   pub two : take 9 (savedForm Two sample) ≡ 0 ∷ 0 ∷ 0x01 ∷ 0x51 ∷ 2 ∷ 0 ∷ 0 ∷ 0x1F ∷ 0x80 ∷ []
   -- in both: the pointer and the first general register, the last mask

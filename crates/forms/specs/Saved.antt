@@ -6,7 +6,7 @@ use lib.Dec.{eqb}
 use lib.ListN.{length, getD, drop}
 use Rattle.lists.specs.Lists.{firstOf}
 use Rattle.machine.specs.State.{State}
-use Rattle.machine.specs.Step.{wrongVectorFile, highControlBit}
+use Rattle.machine.specs.Step.{wrongFileSize, wrongVectorFile, highControlBit}
 use Rattle.forms.specs.declared.Version.{Version}
 use Rattle.forms.specs.Version.{versionOf, noVersion}
 use Rattle.forms.specs.Numbers.{numberIn}
@@ -108,7 +108,7 @@ sizeIf number size = cond (eqb number 0) size 0
 
 unfoldable pub savedSize : ℕ → List ℕ → ℕ
 savedSize n vectors =
-    sizeIf (firstOf ((noVersion n, 10) ∷ (not (eqb (length vectors) 2048), 1) ∷ []) 0) (formSize (versionOf n) vectors)
+    sizeIf (firstOf ((noVersion n, 10) ∷ (wrongFileSize vectors, 1) ∷ []) 0) (formSize (versionOf n) vectors)
 
 unfoldable pub movedSize : ℕ → List ℕ → ℕ
 movedSize n bytes = sizeIf (firstOf (beforeTarget n bytes) 0) (formSize (versionOf n) (stateIn bytes .vectors))

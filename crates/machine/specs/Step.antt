@@ -21,8 +21,11 @@ ofFields (Fields i) otherwise f = f i
 ofFields (Refused r) otherwise f = otherwise
 
 -- R4.3: the size of the vector file (R1.2)
+abbrev pub wrongFileSize : List ℕ → Bool
+wrongFileSize vectors = not (eqb (length vectors) 2048)
+
 unfoldable pub wrongVectorFile : State → Bool
-wrongVectorFile s = not (eqb (length (s .vectors)) 2048)
+wrongVectorFile s = wrongFileSize (s .vectors)
 
 -- R4.4: a bit above bit 15
 unfoldable pub highControlBit : State → Bool
