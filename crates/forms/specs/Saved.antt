@@ -3,13 +3,14 @@ use Prim.Native.Nat.{ℕ, _+_}
 use mathlib.Core.Bool.{Bool, cond, not}
 use mathlib.Core.List.{List, [], _∷_, _++_}
 use lib.Dec.{eqb}
-use lib.ListN.{length, getD, drop}
+use lib.ListN.{length, getD, take, drop}
 use Rattle.lists.specs.Lists.{firstOf}
 use Rattle.machine.specs.State.{State}
 use Rattle.machine.specs.Step.{wrongFileSize, wrongVectorFile, highControlBit}
 use Rattle.forms.specs.declared.Version.{Version}
 use Rattle.forms.specs.Version.{versionOf, noVersion}
 use Rattle.forms.specs.Numbers.{numberIn}
+use Rattle.forms.specs.File.{zeros}
 use Rattle.forms.specs.Form.{fileAt, file, savedForm, formSize, loadedState}
 
 -- ---- R9.4: saving, in the version that has a number
@@ -86,6 +87,15 @@ unfoldable pub load : List ℕ → State → Load
 load bytes s =
     let n : ℕ = firstOf (loadConditions bytes s) 0 in
     record { number = n; state = cond (eqb n 0) (stateIn bytes) s }
+
+-- ---- R9.13: loading the form that stands in front of other bytes
+
+-- a state to load into
+unfoldable pub blank : State
+blank = record { vectors = zeros 2048; masks = zeros 8; general = zeros 16; control = 0; pointer = 0 }
+
+unfoldable pub loadFront : List ℕ → Load
+loadFront bytes = load (take (sizeAt bytes) bytes) blank
 
 -- ---- R9.10: moving, to the version that has a number
 

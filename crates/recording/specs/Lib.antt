@@ -1,0 +1,4 @@
+-- What a reader opens, in this order.
+pub mod Item
+pub mod Replay
+pub mod Reports
