@@ -92,7 +92,7 @@ pub(crate) fn clear(part: &mut [u8])
 
 // A register's 64 bytes over a part, through an array of its own: the back end does not see that the two do not overlap, and goes by single
 // bytes or asks first.
-pub(crate) fn copy_register(part: &mut [u8], register: &[u8])
+pub fn copy_register(part: &mut [u8], register: &[u8])
     requires { ⌜ (length (now part) ≡ 64) × (length (now register) ≡ 64) ⌝ }
     ensures { λ _. ⌜ now (part .exit) ≡ now (register .entry) ⌝ }
 {

@@ -17,7 +17,7 @@ use Rattle.machine.specs.State.{State, Stepped}
 use Rattle.forms.specs.Saved.{sizeAt, loadFront}
 use Rattle.forms.proofs.Refusals.{front-cut}
 use Rattle.recording.specs.Item.{itemSize, isBad}
-use Rattle.recording.specs.Replay.{stepOf, differs, replayFrom, replay}
+use Rattle.recording.specs.Replay.{differs, replayFrom, itemsIn, replay}
 use Rattle.recording.specs.Reports.{WellFormed, Agrees, Loads, placeOf, from, stateBefore, steppedAt, Agree, Says, Reports}
 use Rattle.recording.specs.declared.Report.{Report}
 use Rattle.recording.specs.declared.Report.the-variants.{Same, Differs, BadItem, BadState}
@@ -43,7 +43,7 @@ module _ (r : List ℕ) where
       ]
 
   record Placed (n : ℕ) : Type 0 where
-    least : n ≤ placeOf r n
+    least : sizeAt r + n ≤ placeOf r n
     most : placeOf r n ≤ length r
 
   placed : Loads r → (n : ℕ) → Agree r n → Placed n
@@ -69,8 +69,13 @@ module _ (r : List ℕ) where
   turn : (m n : ℕ) → WellFormed (from r n) → Agrees (steppedAt r n) (from r n) → at (suc m) n ≡ at m (suc n)
   unfolding replayFrom placeOf stateBefore
   turn m n w a =
-      rw (left n (inside n w), not-bad (from r n) w, not-differs (from r n) (steppedAt r n) a,
-      drop-drop (itemSize (from r n)) (placeOf r n) r, add-one n)
+      rw (
+        left n (inside n w),
+        not-bad (from r n) w,
+        not-differs (from r n) (steppedAt r n) a,
+        drop-drop (itemSize (from r n)) (placeOf r n) r,
+        add-one n,
+      )
 
   reached : (n m : ℕ) → Agree r n → at (n + m) 0 ≡ at m n
   reached zero m a = rw (zero-add m)
@@ -80,21 +85,22 @@ module _ (r : List ℕ) where
 
   -- ---- the report is given where it is true
 
-  replayed : Loads r → (n : ℕ) → Agree r n → (m : ℕ) → n + m ≡ length r → replay r ≡ at m n
+  replayed : Loads r → (n : ℕ) → Agree r n → (m : ℕ) → n + m ≡ length (itemsIn r) → replay r ≡ at m n
   unfolding replay placeOf stateBefore
   replayed l n a m e = rw (eq-eqb (loadFront r .number) 0 l, ← e) (reached n m a)
 
   -- while bytes are left, one more item can be looked at
-  more : Loads r → (n : ℕ) → Agree r n → placeOf r n < length r → replay r ≡ at (suc (length r - suc n)) n
+  more : Loads r → (n : ℕ) → Agree r n → placeOf r n < length r → replay r ≡ at (suc (length (itemsIn r) - suc n)) n
   more l n a h =
       let p : Placed n = placed l n a in
-      replayed l n a (suc (length r - suc n)) (omega (arith, p .least))
+      replayed l n a (suc (length (itemsIn r) - suc n)) (omega (arith, p .least, length-drop (sizeAt r) r))
 
   given : (x : Report) → Says r x → replay r ≡ x
   unfolding replay replayFrom
   given (Same n) s =
       let p : Placed n = placed (s .0) n (s .1) in
-      replayed (s .0) n (s .1) (length r - n) (omega (arith, p .least, p .most)) ∙ ended (length r - n)
+      replayed (s .0) n (s .1) (length (itemsIn r) - n) (omega (arith, p .least, p .most, length-drop (sizeAt r) r))
+      ∙ ended (length (itemsIn r) - n)
     where
       ended : (m : ℕ) → at m n ≡ Same n
       ended zero = refl
@@ -116,9 +122,9 @@ module _ (r : List ℕ) where
         | no y ↦ let e : n ≡ k = omega arith in subst (λ j. WellFormed (from r j) × Agrees (steppedAt r j) (from r j)) e (w, g)
       ]
 
-  true-from : Loads r → (m n : ℕ) → Agree r n → n + m ≡ length r → Says r (at m n)
+  true-from : Loads r → (m n : ℕ) → Agree r n → n + m ≡ length (itemsIn r) → Says r (at m n)
   unfolding replayFrom
-  true-from l zero n a e = let p : Placed n = placed l n a in (l, a, omega (arith, p .least, p .most))
+  true-from l zero n a e = let p : Placed n = placed l n a in (l, a, omega (arith, p .least, p .most, length-drop (sizeAt r) r))
   true-from l (suc m) n a e =
       go (eqb (length (from r n)) 0) (isBad (from r n)) (differs (steppedAt r n) (from r n)) refl refl refl
       (λ w g. subst (Says r) (sym (turn m n w g)) (true-from l m (suc n) (one-more n a w g) (omega arith)))
@@ -138,8 +144,8 @@ module _ (r : List ℕ) where
   unfolding replay placeOf stateBefore
   holds-true = go (eqb (loadFront r .number) 0) refl
     where
-      go : (t : Bool) → eqb (loadFront r .number) 0 ≡ t → Says r (cond t (at (length r) 0) BadState)
-      go true e = true-from (eqb-true (loadFront r .number) 0 e) (length r) 0 (λ k h. absurd (omega arith)) (omega arith)
+      go : (t : Bool) → eqb (loadFront r .number) 0 ≡ t → Says r (cond t (at (length (itemsIn r)) 0) BadState)
+      go true e = true-from (eqb-true (loadFront r .number) 0 e) (length (itemsIn r)) 0 (λ k h. absurd (omega arith)) (omega arith)
       go false e = eqb-false (loadFront r .number) 0 e
 
 pub reports : Reports

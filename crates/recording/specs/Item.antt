@@ -49,7 +49,7 @@ itemSize bytes = controlAt bytes + 4 + 64
 
 unfoldable pub isBad : List ℕ → Bool
 isBad bytes =
-    ltb (length bytes) (itemSize bytes)           -- a byte is missing
+    ltb (length bytes) (itemSize bytes)  -- a byte is missing
     || not (eqb (sizeAt bytes) (itemSize bytes))  -- the length does not count what follows it
     || not (eqb (itemVersion bytes) 1)
     || ltb 15 (codeCount bytes)

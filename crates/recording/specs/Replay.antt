@@ -24,20 +24,20 @@ stepOf s bytes = step (memoryIn bytes) s (codeIn bytes)
 
 -- ---- R14.5: the 64 bytes of a destination
 
--- what a state holds there
-abbrev pub held : State → Destination → List ℕ
-held s (Vector n) = register (s .vectors) n
-held s (Mask n) = big 8 (getD (s .masks) n 0) ++ zeros 56
+-- a vector register; a mask, in the first 8
+abbrev pub held : List ℕ → List ℕ → Destination → List ℕ
+held vectors masks (Vector n) = register vectors n
+held vectors masks (Mask n) = big 8 (getD masks n 0) ++ zeros 56
 
--- the answers with which an instruction is decoded (R11.5)
+-- the answers with which there is one: the instruction is decoded (R11.5)
 abbrev pub hasDestination : ℕ → Bool
 hasDestination number = eqb number 0 || eqb number 7 || eqb number 8
 
--- what a step on this code shows of it, as it stands after the step
-unfoldable pub shown : List ℕ → Stepped → List ℕ
-shown code o =
-    cond (hasDestination (o .answer .number))
-    (ofFields (decoded code) (zeros 64) (λ (i : Instruction). held (o .state) (i .destination)))
+-- what a step on this code shows of it, which has given this answer and left these vectors and masks
+unfoldable pub shown : List ℕ → ℕ → List ℕ → List ℕ → List ℕ
+shown code number vectors masks =
+    cond (hasDestination number)
+    (ofFields (decoded code) (zeros 64) (λ (i : Instruction). held vectors masks (i .destination)))
     (zeros 64)
 
 -- ---- R14.6: what a step gave is not what its item expects
@@ -53,7 +53,7 @@ unfoldable pub differs : Stepped → List ℕ → Bool
 differs o bytes =
     not (eqb (o .answer .number) (expectedNumber bytes))
     || not (eqb (o .state .control) (expectedControl bytes))
-    || not (sameBytes (shown (codeIn bytes) o) (expectedDestination bytes))
+    || not (sameBytes (shown (codeIn bytes) (o .answer .number) (o .state .vectors) (o .state .masks)) (expectedDestination bytes))
 
 -- ---- R14.7: the report
 
@@ -73,5 +73,5 @@ itemsIn recording = drop (sizeAt recording) recording
 unfoldable pub replay : List ℕ → Report
 replay recording =
     cond (eqb (loadFront recording .number) 0)
-    (replayFrom (length recording) (loadFront recording .state) (itemsIn recording) 0)
+    (replayFrom (length (itemsIn recording)) (loadFront recording .state) (itemsIn recording) 0)
     BadState

@@ -24,7 +24,7 @@ pub record WellFormed (bytes : List ℕ) : Type 0 where
 pub record Agrees (o : Stepped) (bytes : List ℕ) : Type 0 where
   pub number : o .answer .number ≡ expectedNumber bytes
   pub control : o .state .control ≡ expectedControl bytes
-  pub destination : shown (codeIn bytes) o ≡ expectedDestination bytes
+  pub destination : shown (codeIn bytes) (o .answer .number) (o .state .vectors) (o .state .masks) ≡ expectedDestination bytes
 
 module _ (recording : List ℕ) where
   -- R14.1: the saved form loads
