@@ -1,4 +1,4 @@
-// The command's lines, put into a lent buffer at a place, as text's functions do.
+// The command's own lines. Each function puts one into a lent buffer at a place, and returns the place behind it.
 ghost use Prim.Native.Nat.{_+_, _≤_};
 ghost use lib.ListN.{length};
 ghost use Rattle.text.specs.Put.{Put};

@@ -1,4 +1,4 @@
-// Standard input, read to its end or until a read fails.
+// Standard input, for the programs, which take no input that was cut short (R10.7). No contract can say what is read.
 ghost use Prim.Native.Nat.{_+_, _≤_};
 ghost use lib.ListN.{length};
 

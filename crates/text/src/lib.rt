@@ -1,4 +1,4 @@
-// Numbers as text. Each function puts its text into a lent buffer at a place, and returns the place behind it.
+// Texts, and numbers as text (R10.4). Each function puts its text into a lent buffer at a place, and returns the place behind it.
 ghost use mathlib.Core.Path.{_≡_};
 ghost use Prim.Native.Nat.{_+_, _≤_, _<_};
 ghost use lib.ListN.{length};
