@@ -5,11 +5,11 @@ use mathlib.Core.List.{List, [], _∷_, _++_}
 use lib.Dec.{eqb, leb}
 use lib.ListN.{length, take, drop}
 use Rattle.lists.specs.Lists.{table}
-use Rattle.text.specs.Text.{decimal, hex8, space, lineFeed}
 use Rattle.machine.specs.State.{State, Stepped}
 use Rattle.machine.specs.Step.{step}
 use Rattle.forms.specs.Numbers.{numberIn}
 use Rattle.forms.specs.Saved.{sizeAt, load}
+use Rattle.text.specs.Text.{decimal, hex8, space, lineFeed}
 
 -- ---- lines, in ASCII
 

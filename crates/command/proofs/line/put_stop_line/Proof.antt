@@ -4,9 +4,9 @@ use Prim.Native.Nat.{_≤_}
 use native.Mathlib.Omega.{arith}
 use borrow.Author.Needs.{needs}
 use lib.ListN.{length}
-use Rattle.command.specs.Command.{stopLine}
 use Rattle.text.proofs.Digits.{decimal-most}
 use Rattle.text.proofs.Writing.{followed}
+use Rattle.command.specs.Command.{stopLine}
 use Rattle.command.proofs.line.put_stop_line.Statement.{statement}
 use Rattle.command.proofs.line.put_stop_line.Tie as tie
 
