@@ -11,9 +11,9 @@ use Rattle.machine.specs.State.{State, Stepped}
 use Rattle.machine.specs.Step.{step}
 use Rattle.machine.specs.Answers.{Sized}
 use Rattle.machine.proofs.Answers.{lengths}
+use Rattle.text.specs.Put.{Put}
+use Rattle.text.proofs.Writing.{none, followed}
 use Rattle.command.specs.Command.{stepLine, stopLine, room}
-use Rattle.command.specs.Put.{Put}
-use Rattle.command.proofs.Writing.{none, followed}
 use Rattle.command.proofs.Lines.{lines, at-end, goes-on, stops, step-most, step-short}
 
 -- a part that is lent to its end

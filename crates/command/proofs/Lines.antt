@@ -11,8 +11,8 @@ use lib.ListN.{length, drop, length-append}
 use Rattle.machine.specs.State.{State, Stepped}
 use Rattle.machine.specs.Step.{step}
 use Rattle.machine.proofs.Answers.{lengths}
+use Rattle.text.proofs.Digits.{decimal-most, decimal-short, hex-eight}
 use Rattle.command.specs.Command.{stepLine, stopLine, linesFrom}
-use Rattle.command.proofs.Digits.{decimal-most, decimal-short, hex-eight}
 
 where-true : (t : Bool) (z : List ℕ) {x y : List ℕ} → (t ≡ true → x ≡ y) → cond t x z ≡ cond t y z
 where-true true z h = h refl

@@ -1,43 +1,17 @@
 -- docs/RULES.md, section 10: what the command prints for what it reads.
-use Prim.Native.Nat.{ℕ, zero, suc, _+_, _-_, _/_, _%_, _^_, _≤_}
+use Prim.Native.Nat.{ℕ, zero, suc, _+_}
 use mathlib.Core.Bool.{Bool, cond, _&&_}
 use mathlib.Core.List.{List, [], _∷_, _++_}
-use mathlib.Core.Path.{_≡_}
-use lib.Dec.{eqb, ltb, leb}
+use lib.Dec.{eqb, leb}
 use lib.ListN.{length, take, drop}
 use Rattle.lists.specs.Lists.{table}
 use Rattle.machine.specs.State.{State, Stepped}
 use Rattle.machine.specs.Step.{step}
 use Rattle.forms.specs.Numbers.{numberIn}
 use Rattle.forms.specs.Saved.{sizeAt, load}
+use Rattle.text.specs.Text.{decimal, hex8, space, lineFeed}
 
--- ---- R10.4: numbers as text, in ASCII
-
--- in decimal, of at most n digits
-unfoldable pub decimalOf : ℕ → ℕ → List ℕ
-decimalOf zero x = []
-decimalOf (suc n) x = cond (ltb x 10) ((48 + x) ∷ []) (decimalOf n (x / 10) ++ ((48 + x % 10) ∷ []))
-
--- 20 digits are enough for 64 bits
-unfoldable pub decimal : ℕ → List ℕ
-decimal x = decimalOf 20 x
-
--- a hex digit, lower-case
-abbrev pub hexDigit : ℕ → ℕ
-hexDigit x = cond (ltb x 10) (48 + x) (87 + x)
-
--- a 32-bit number in hex, the highest digit first
-unfoldable pub hex8 : ℕ → List ℕ
-hex8 x = table 8 (λ k. hexDigit (x / 16 ^ (7 - k) % 16))
-
--- what stands between numbers, and behind a line
-abbrev pub space : List ℕ
-space = 32 ∷ []
-
-abbrev pub lineFeed : List ℕ
-lineFeed = 10 ∷ []
-
--- ---- lines, in ASCII too
+-- ---- lines, in ASCII
 
 -- R10.4: the line of a step
 unfoldable pub stepLine : ℕ → ℕ → ℕ → List ℕ
@@ -102,13 +76,7 @@ printed input =
     (linesFrom (length (codeOf input)) (memoryOf input) (codeOf input) (startOf input) 0)
     badInput
 
--- ---- R10.6: a buffer that a text is put into
-
--- n bytes, a text, were put at the start of a buffer, and fit it; what stands behind them is as before
-pub record Wrote (text before : List ℕ) (n : ℕ) (after : List ℕ) : Type 0 where
-  pub count : n ≡ length text
-  pub buffer : after ≡ text ++ drop (length text) before
-  pub within : n ≤ length after
+-- ---- R10.6: the output
 
 -- Every text fits: a step that is done moves the offset by 6 or more and prints 16 bytes at most, so 682 of them 10,912 (Runs.antt).
 abbrev pub room : ℕ

@@ -5,14 +5,15 @@ ghost use lib.ListN.{length, drop};
 ghost use Rattle.machine.specs.Step.{step};
 ghost use Rattle.machine.specs.State.{stateOf, steppedOf};
 ghost use Rattle.forms.specs.Saved.{sizeAt};
-ghost use Rattle.command.specs.Command.{stepLine, linesFrom, codeLength, isLaidOut, printed, room, commanded, Wrote};
-ghost use Rattle.command.specs.Put.{Put};
+ghost use Rattle.text.specs.Text.{Wrote};
+ghost use Rattle.text.specs.Put.{Put};
+ghost use Rattle.command.specs.Command.{stepLine, linesFrom, codeLength, isLaidOut, printed, room, commanded};
+use line::put_step_line;
+use line::put_stop_line;
 use machine::Answer;
-use text::put_step_line;
-use text::put_stop_line;
 use text::put_text;
 
-mod text;
+mod line;
 
 // What a step answered, and the place behind its line.
 struct Turn {

@@ -5,9 +5,9 @@ use native.Mathlib.Omega.{arith}
 use borrow.Author.Tests.{lt-leb, le-leb}
 use borrow.Author.Needs.{needs}
 use lib.ListN.{length}
+use Rattle.text.proofs.Writing.{none, wrote}
 use Rattle.command.specs.Command.{room, commanded}
 use Rattle.command.proofs.Runs.{prints}
-use Rattle.command.proofs.Writing.{none, wrote}
 use Rattle.command.proofs.command.Statement.{statement}
 use Rattle.command.proofs.command.Tie as tie
 

@@ -1,9 +1,9 @@
--- `command::text::hex_digit` meets its contract, by its two cases.
+-- `text::hex_digit` meets its contract, by its two cases.
 -- Assumes nothing.
 use borrow.Author.Tests.{lt-ltb, le-ltb}
 use borrow.Author.Needs.{needs}
-use Rattle.command.proofs.text.hex_digit.Statement.{statement}
-use Rattle.command.proofs.text.hex_digit.Tie as tie
+use Rattle.text.proofs.hex_digit.Statement.{statement}
+use Rattle.text.proofs.hex_digit.Tie as tie
 
 cast-result : tie.Need-cast-result
 cast-result c = search needs

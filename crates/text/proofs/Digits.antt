@@ -11,7 +11,7 @@ use lib.Dec.{ltb}
 use lib.ListN.{length, length-append}
 use lib.Pow.{pow-add}
 use Rattle.lists.proofs.Tables.{length-table}
-use Rattle.command.specs.Command.{decimalOf, decimal, hex8}
+use Rattle.text.specs.Text.{decimalOf, decimal, hex8}
 
 -- at most n of them
 pub digits-most : (n x : ℕ) → length (decimalOf n x) ≤ n

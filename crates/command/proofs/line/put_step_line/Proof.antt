@@ -1,14 +1,14 @@
--- `command::text::put_step_line` meets its contract: one text behind the other.
+-- `command::line::put_step_line` meets its contract: one text behind the other.
 -- Assumes nothing.
 use Prim.Native.Nat.{_≤_}
 use native.Mathlib.Omega.{arith}
 use borrow.Author.Needs.{needs}
 use lib.ListN.{length}
+use Rattle.text.proofs.Digits.{decimal-most, hex-eight}
+use Rattle.text.proofs.Writing.{followed}
 use Rattle.command.specs.Command.{stepLine}
-use Rattle.command.proofs.Digits.{decimal-most, hex-eight}
-use Rattle.command.proofs.Writing.{followed}
-use Rattle.command.proofs.text.put_step_line.Statement.{statement}
-use Rattle.command.proofs.text.put_step_line.Tie as tie
+use Rattle.command.proofs.line.put_step_line.Statement.{statement}
+use Rattle.command.proofs.line.put_step_line.Tie as tie
 
 put-decimal-requires : tie.Need-put-decimal-requires
 put-decimal-requires c κs = search needs

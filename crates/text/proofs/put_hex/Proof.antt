@@ -1,4 +1,4 @@
--- `command::text::put_hex` meets its contract: after k turns the first k digits are put. The measure is what is left of the eight.
+-- `text::put_hex` meets its contract: after k turns the first k digits are put. The measure is what is left of the eight.
 -- Assumes nothing.
 use Prim.Native.Nat.{ℕ, _+_, _-_, _≤_, _<_, _/_, _%_, _^_}
 use mathlib.Core.Path.{_≡_, refl}
@@ -7,12 +7,12 @@ use native.Mathlib.Omega.{arith}
 use lib.ListN.{length, length-set}
 use Rattle.lists.specs.Lists.{table}
 use Rattle.lists.proofs.Tables.{table-next}
-use Rattle.command.specs.Command.{hexDigit, hex8}
-use Rattle.command.specs.Put.{Put}
-use Rattle.command.proofs.Digits.{hex-shift}
-use Rattle.command.proofs.Writing.{none, turn}
-use Rattle.command.proofs.text.put_hex.Statement.{statement}
-use Rattle.command.proofs.text.put_hex.Tie as tie
+use Rattle.text.specs.Text.{hexDigit, hex8}
+use Rattle.text.specs.Put.{Put}
+use Rattle.text.proofs.Digits.{hex-shift}
+use Rattle.text.proofs.Writing.{none, turn}
+use Rattle.text.proofs.put_hex.Statement.{statement}
+use Rattle.text.proofs.put_hex.Tie as tie
 
 abbrev Inv-loop : tie.InvT-loop
 Inv-loop out₀ at x k₀ out k =

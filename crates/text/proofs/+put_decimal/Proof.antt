@@ -5,14 +5,14 @@ use native.Mathlib.Omega.{arith}
 use lib.ListN.{length, length-set}
 use borrow.Fn.Kinds.{In}
 use borrow.Fn.PlainCycle.{Measures, is, falls, and}
-use Rattle.command.specs.Command.{decimal}
-use Rattle.command.proofs.Digits.{decimal-small, decimal-large, decimal-shorter}
-use Rattle.command.proofs.Writing.{one, followed}
-use Rattle.command.proofs.text.put_decimal.Reads as put-decimal
-use Rattle.command.proofs.text.put_decimal.Kinds as put-decimal-kinds
-use Rattle.command.proofs.text.+put_decimal.Lts-put_decimal as put-decimal-lts
-use Rattle.command.proofs.text.+put_decimal.{statement}
-use Rattle.command.proofs.text.+put_decimal.Tie.{close}
+use Rattle.text.specs.Text.{decimal}
+use Rattle.text.proofs.Digits.{decimal-small, decimal-large, decimal-shorter}
+use Rattle.text.proofs.Writing.{one, followed}
+use Rattle.text.proofs.put_decimal.Reads as put-decimal
+use Rattle.text.proofs.put_decimal.Kinds as put-decimal-kinds
+use Rattle.text.proofs.+put_decimal.Lts-put_decimal as put-decimal-lts
+use Rattle.text.proofs.+put_decimal.{statement}
+use Rattle.text.proofs.+put_decimal.Tie.{close}
 
 abbrev μ-put-decimal : Measures 1 put-decimal-kinds.ps ℕ
 μ-put-decimal κs a = a .1 .1 .0

@@ -1,11 +1,11 @@
--- `run::read_input` meets its contract: the count stays within the buffer, whose length no read changes; what is left of the buffer
+-- `input::read_input` meets its contract: the count stays within the buffer, whose length no read changes; what is left of the buffer
 -- gets less at each turn. Assumes nothing.
 use Prim.Native.Nat.{_-_, _≤_}
 use mathlib.Core.Path.{_≡_, _∙_}
 use native.Mathlib.Omega.{arith}
 use lib.ListN.{length}
-use Rattle.run.proofs.read_input.Statement.{statement}
-use Rattle.run.proofs.read_input.Tie as tie
+use Rattle.input.proofs.read_input.Statement.{statement}
+use Rattle.input.proofs.read_input.Tie as tie
 
 abbrev Inv-loop : tie.InvT-loop
 Inv-loop buf₀ count₀ buf count = (count ≤ length buf) × (length buf ≡ length buf₀)
@@ -17,7 +17,7 @@ loop-holds : tie.Need-loop-holds Inv-loop μ-loop
 loop-holds c = omega arith
 
 read-to-requires : tie.Need-read-to-requires Inv-loop μ-loop
-read-to-requires c κs = c .before .before .loop .inv .0
+read-to-requires c κs = omega (arith, c .before .before .loop .inv .0)
 
 same-length : tie.Need-same-length Inv-loop μ-loop
 same-length c =

@@ -1,4 +1,4 @@
--- `command::text::put_text` meets its contract: after k turns the first k bytes of the text are put. The measure is what is left of the
+-- `text::put_text` meets its contract: after k turns the first k bytes of the text are put. The measure is what is left of the
 -- text.
 -- Assumes nothing.
 use Prim.Native.Nat.{ℕ, _+_, _-_, _≤_, _<_}
@@ -8,10 +8,10 @@ use native.Mathlib.Nat.{add-zero}
 use native.Mathlib.Omega.{arith}
 use lib.Seq.{take-length}
 use lib.ListN.{length, getD, take, length-set}
-use Rattle.command.specs.Put.{Put}
-use Rattle.command.proofs.Writing.{none, take-next, turn}
-use Rattle.command.proofs.text.put_text.Statement.{statement}
-use Rattle.command.proofs.text.put_text.Tie as tie
+use Rattle.text.specs.Put.{Put}
+use Rattle.text.proofs.Writing.{none, take-next, turn}
+use Rattle.text.proofs.put_text.Statement.{statement}
+use Rattle.text.proofs.put_text.Tie as tie
 
 abbrev Inv-loop : tie.InvT-loop
 Inv-loop out₀ at text k₀ out k = (k ≤ length text) × (length out ≡ length out₀) × Put (take k text) out₀ at (at + k) out

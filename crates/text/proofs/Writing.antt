@@ -8,8 +8,8 @@ use native.Mathlib.Nat.{add-zero, add-assoc}
 use native.Mathlib.Numerals.{add-one}
 use lib.ListN.{length, take, drop, set, getD, take-append-drop, length-append}
 use lib.Seq.{take-at, drop-at, drop-drop, take-suc, set-split, append-snoc, length-take-le}
-use Rattle.command.specs.Put.{Put}
-use Rattle.command.specs.Command.{Wrote}
+use Rattle.text.specs.Put.{Put}
+use Rattle.text.specs.Text.{Wrote}
 
 pub none : (a : List ℕ) (n : ℕ) → Put [] a n n a
 none a n = record { place = sym (add-zero n); buffer = rw (add-zero, append-nil) (sym (take-append-drop n a)) }

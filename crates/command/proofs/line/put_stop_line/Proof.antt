@@ -1,14 +1,14 @@
--- `command::text::put_stop_line` meets its contract: one text behind the other.
+-- `command::line::put_stop_line` meets its contract: one text behind the other.
 -- Assumes nothing.
 use Prim.Native.Nat.{_≤_}
 use native.Mathlib.Omega.{arith}
 use borrow.Author.Needs.{needs}
 use lib.ListN.{length}
+use Rattle.text.proofs.Digits.{decimal-most}
+use Rattle.text.proofs.Writing.{followed}
 use Rattle.command.specs.Command.{stopLine}
-use Rattle.command.proofs.Digits.{decimal-most}
-use Rattle.command.proofs.Writing.{followed}
-use Rattle.command.proofs.text.put_stop_line.Statement.{statement}
-use Rattle.command.proofs.text.put_stop_line.Tie as tie
+use Rattle.command.proofs.line.put_stop_line.Statement.{statement}
+use Rattle.command.proofs.line.put_stop_line.Tie as tie
 
 slice-aggregate-put-text : tie.Need-slice-aggregate-put-text
 slice-aggregate-put-text c = search needs
