@@ -1,6 +1,7 @@
 //! The programs as processes, their standard output held against the second program's (R12.3).
 
 use crate::program::{Program, REPLAY, RUN};
+use crate::random::Random;
 use crate::second;
 use std::fs;
 use std::path::PathBuf;
@@ -38,7 +39,7 @@ impl Command {
         }
     }
 
-    pub fn file(&self, number: usize) -> PathBuf {
+    fn file(&self, number: usize) -> PathBuf {
         let name = format!("{}-{number}.bin", self.name.replace(' ', "-"));
         self.folder.join(name)
     }
@@ -54,6 +55,27 @@ impl Command {
             panic!("{file}: printed\n{printed}expected\n{expected}");
         }
         expected
+    }
+
+    /// The same where the input comes in pieces, as a pipe may give it, and from a file.
+    pub fn agrees_in_pieces(&self, number: usize, input: &[u8], random: &mut Random) {
+        let expected = (self.output)(input);
+        let mut pieces = Vec::new();
+        let mut rest = input;
+        while !rest.is_empty() && pieces.len() < 6 {
+            let size = random.within(1, rest.len() as i32) as usize;
+            let (piece, left) = rest.split_at(size);
+            pieces.push(piece);
+            rest = left;
+        }
+        pieces.push(rest);
+        let printed = self.program.output_of_pieces(&pieces);
+        assert_eq!(String::from_utf8_lossy(&printed), expected, "in pieces");
+        let file = self.file(number);
+        fs::write(&file, input).expect("an input can be written");
+        let printed = self.program.output_of_file(&file);
+        assert_eq!(String::from_utf8_lossy(&printed), expected, "from a file");
+        fs::remove_file(&file).expect("an input can be removed");
     }
 
     /// An input whose output is known.

@@ -18,6 +18,7 @@ pub mod predicates;
 pub mod processor;
 pub mod program;
 pub mod random;
+pub mod random_recording;
 pub mod random_step;
 pub mod reading;
 pub mod recorded;
