@@ -56,11 +56,12 @@ impl Recordings {
         recorder
     }
 
-    /// A state with some of its registers; one in three unmasks every exception, so that flags are
-    /// added without a result.
+    /// A state with some of its registers, whose pointer stands among the addresses too. One in three
+    /// unmasks every exception, so that flags are added without a result.
     fn start(&mut self) -> (Machine, Vec<u8>) {
         let (mut machine, memory) = self.steps.start();
         let random = &mut self.steps.random;
+        machine.pointer = random.within(0, 600) as u64;
         if random.once_in(2) {
             machine.keep_registers(random.bits() as u32);
         }

@@ -53,7 +53,7 @@ impl Reached {
     }
 }
 
-/// Replays a recording as it was written; whether the state was one that loads.
+/// Replays a recording as it was written: where its state loads, every item agrees.
 fn as_written(replays: &Replays, number: usize, recorder: &Recorder, reached: &mut Reached) {
     let bytes = recorder.recording.bytes();
     let report = replays.agrees(number, &bytes);
@@ -125,6 +125,7 @@ fn long_recordings_agree() {
     let mut recordings = Recordings::seeded(seed ^ 1 << 32);
     let mut reached = Reached::default();
     let mut latest = 0;
+    log(&format!("long recordings, seed {seed}"));
     for number in 0..24 {
         let items = recordings.steps.random.within(200, 700);
         let recorder = recordings.recorder(items as usize);
@@ -137,10 +138,7 @@ fn long_recordings_agree() {
             }
         }
     }
-    assert!(
-        latest >= 200,
-        "seed {seed}: nothing is found behind {latest}"
-    );
+    assert!(latest >= 200, "nothing is found behind {latest}");
     reached.require("answer 0", 1000);
     reached.require("answer 8", 200);
 }
