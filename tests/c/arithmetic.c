@@ -107,7 +107,7 @@ static void print_outcome(ridgecrook_rounded outcome) {
     printf("%04X %s %d", outcome.half, flags, outcome.number);
 }
 
-/* The line that the replay of the Rust tests reads too. */
+/* The line that `repeat` of the Rust tests reads too. */
 static void print_failure(const row *r, ridgecrook_rounded outcome) {
     printf("%s m%u u%u", OPERATIONS[r->operation].name, (unsigned)r->mode,
            (unsigned)r->underflow_unmasked);

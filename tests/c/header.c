@@ -142,8 +142,31 @@ static void moving(void) {
     check(move(1, packed, size, sizeof saved) == RIDGECROOK_BAD_CONTROL, "a move of a control word with bit 24");
 }
 
+static int reports(const uint8_t *recording, size_t length, uint64_t report, uint64_t item) {
+    ridgecrook_report r = ridgecrook_replay(recording, length);
+    return r.report == report && r.item == item;
+}
+
+static void replaying(void) {
+    uint8_t recording[RIDGECROOK_SAVED_SIZE + 77];
+    memset(recording, 0, sizeof recording);
+    memcpy(recording, saved, sizeof saved);
+    uint8_t *item = recording + sizeof saved; /* a step without code */
+    item[3] = 73;
+    item[4] = 1;
+    item[5] = RIDGECROOK_CUT_SHORT;
+    memcpy(item + 9, recording + 5, 4); /* the control word, as it was saved */
+    check(reports(recording, sizeof recording, 0, 1), "a recording of one item");
+    check(reports(recording, sizeof saved, 0, 0), "and of none");
+    item[5] = RIDGECROOK_DONE;
+    check(reports(recording, sizeof recording, 1, 0), "another answer");
+    check(reports(recording, sizeof recording - 1, 2, 0), "an item that is cut");
+    check(reports(NULL, 0, 3, 0), "no recording");
+}
+
 int main(void) {
     check(sizeof(ridgecrook_rounded) == 4 && sizeof(ridgecrook_answer) == 8, "structs without padding");
+    check(sizeof(ridgecrook_report) == 16 && offsetof(ridgecrook_report, item) == 8, "two numbers of 8 bytes");
     check(RIDGECROOK_VECTORS_SIZE == 32 * RIDGECROOK_REGISTER_SIZE, "32 vector registers");
     check(sizeof masks == 64 && sizeof general == 128, "8 masks and 16 general registers");
     operations();
@@ -153,5 +176,6 @@ int main(void) {
     saving();
     saving_packed();
     moving();
+    replaying();
     return finish();
 }

@@ -26,7 +26,7 @@ pub fn setting(name: &str, otherwise: u64) -> u64 {
     }
 }
 
-/// A kind of case, which prints itself as the line that `replay` reads.
+/// A kind of case, which prints itself as the line that `repeat` reads.
 pub trait Compared: Display {
     type Outcome: PartialEq;
 
@@ -74,7 +74,7 @@ impl Compared for Transfer {
 }
 
 /// The line of a case whose outcome is not the expected one; the part before `=>` can be given to
-/// `replay`.
+/// `repeat`.
 pub fn failure<C: Compared>(case: &C, outcome: &C::Outcome, expected: &C::Outcome) -> String {
     let [outcome, expected] = [outcome, expected].map(|outcome| case.shown(outcome));
     format!("{case} => {outcome} expected {expected}")

@@ -2,6 +2,7 @@
 
 use crate::case::{Arithmetic, Case, Outcome};
 use crate::machine::{Answer, Machine, Step, StepOutcome};
+use crate::second::replay::Report;
 use crate::transfer::{Call, Transfer, TransferOutcome};
 
 extern "C" {
@@ -72,6 +73,24 @@ extern "C" {
     ) -> u32;
     fn ridgecrook_saved_size(version: u32, vectors: *const u8, vectors_length: usize) -> usize;
     fn ridgecrook_moved_size(version: u32, source: *const u8, source_length: usize) -> usize;
+    fn ridgecrook_replay(recording: *const u8, recording_length: usize) -> Reported;
+}
+
+/// What a replay hands back, laid out as `ridgecrook_report` of the C interface.
+#[repr(C)]
+#[derive(Clone, Copy, Debug, PartialEq, Eq)]
+pub struct Reported {
+    pub report: u64,
+    pub item: u64,
+}
+
+impl From<Report> for Reported {
+    fn from(report: Report) -> Reported {
+        Reported {
+            report: report.number(),
+            item: report.item(),
+        }
+    }
 }
 
 // Safety of the calls of the arithmetic: the functions take numbers alone, accept every number and
@@ -245,6 +264,12 @@ pub fn saved_size(version: u32, vectors: &mut [u8]) -> usize {
 pub fn moved_size(version: u32, source: &mut [u8]) -> usize {
     // Safety: as in `step`.
     unsafe { ridgecrook_moved_size(version, source.as_mut_ptr().cast_const(), source.len()) }
+}
+
+/// The replay of a recording, which is lent by a pointer that may write.
+pub fn replay(recording: &mut [u8]) -> Reported {
+    // Safety: as in `step`.
+    unsafe { ridgecrook_replay(recording.as_mut_ptr().cast_const(), recording.len()) }
 }
 
 /// What the library answers to a save, a load, a move or a question for a size, and leaves of it.

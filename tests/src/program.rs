@@ -1,4 +1,4 @@
-//! The command as a process of its own, fed by a pipe.
+//! One of the programs as a process of its own, fed by a pipe.
 
 use std::fs;
 use std::io::Write;
@@ -11,21 +11,42 @@ pub struct Program {
     path: PathBuf,
 }
 
+/// Where a program is looked for.
+pub struct Place {
+    /// Its crate, by which `rt check` writes it below the project root.
+    pub name: &'static str,
+    /// What may name another file in the environment.
+    pub variable: &'static str,
+}
+
+/// The command.
+pub const RUN: Place = Place {
+    name: "run",
+    variable: "RIDGECROOK_COMMAND",
+};
+
+/// The program that replays a recording.
+pub const REPLAY: Place = Place {
+    name: "replay",
+    variable: "RIDGECROOK_REPLAY",
+};
+
 impl Program {
-    /// The file that `RIDGECROOK_COMMAND` names, else what `rt check run` writes below the project
-    /// root. A missing one is a failure, since nothing would be tested.
-    pub fn found() -> Program {
+    /// The file that the environment names, else what `rt check` writes. A missing one is a
+    /// failure, since nothing would be tested.
+    pub fn found(place: &Place) -> Program {
         let root = Path::new(env!("CARGO_MANIFEST_DIR")).parent();
         let root = root.expect("the tests stand in a folder of the project");
-        let path = match std::env::var_os("RIDGECROOK_COMMAND") {
+        let name = place.name;
+        let path = match std::env::var_os(place.variable) {
             Some(path) => PathBuf::from(path),
-            None => root.join("target/bin/run"),
+            None => root.join("target/bin").join(name),
         };
         let is_there = path.is_file();
         let (path_shown, root) = (path.display(), root.display());
         assert!(
             is_there,
-            "the command {path_shown} is missing: run `rt check run` in {root}"
+            "the program {path_shown} is missing: run `rt check {name}` in {root}"
         );
         Program { path }
     }
@@ -63,22 +84,22 @@ impl Program {
         let input = fs::File::open(file).expect("the input can be read");
         let mut command = Command::new(&self.path);
         let output = command.stdin(input).stdout(Stdio::piped()).spawn();
-        self.finish(output.expect("the command starts"))
+        self.finish(output.expect("the program starts"))
     }
 
     /// What is printed on standard output and on standard error, with any standard input; the exit
     /// status is 0 (R10.7).
     pub fn printed(&self, stdin: impl Into<Stdio>) -> (Vec<u8>, Vec<u8>) {
         let output = Command::new(&self.path).stdin(stdin).output();
-        let output = output.expect("the command starts");
-        assert!(output.status.success(), "the command: {}", output.status);
+        let output = output.expect("the program starts");
+        assert!(output.status.success(), "the program: {}", output.status);
         (output.stdout, output.stderr)
     }
 
     /// What is printed, of a program that ends by itself, with exit status 0 (R10.7).
     fn finish(&self, child: Child) -> Vec<u8> {
-        let output = child.wait_with_output().expect("the command ends");
-        assert!(output.status.success(), "the command: {}", output.status);
+        let output = child.wait_with_output().expect("the program ends");
+        assert!(output.status.success(), "the program: {}", output.status);
         output.stdout
     }
 }

@@ -16,7 +16,6 @@ use ridgecrook_tests::machine::Machine;
 use ridgecrook_tests::random::Random;
 use ridgecrook_tests::second::command::{output, CODE_LIMIT, MEMORY_LIMIT};
 use ridgecrook_tests::second::encoding::LIST;
-use std::fs;
 use std::thread;
 
 const SEED: u64 = 20_240_303;
@@ -271,24 +270,7 @@ fn input_in_pieces() {
     let mut inputs = Inputs::seeded(setting("RIDGECROOK_SEED", SEED));
     let mut random = Random::seeded(SEED);
     for number in 0..40 {
-        let bytes = inputs.input();
-        let expected = output(&bytes);
-        let mut pieces = Vec::new();
-        let mut rest = &bytes[..];
-        while !rest.is_empty() && pieces.len() < 6 {
-            let size = random.within(1, rest.len() as i32) as usize;
-            let (piece, left) = rest.split_at(size);
-            pieces.push(piece);
-            rest = left;
-        }
-        pieces.push(rest);
-        let printed = command.program.output_of_pieces(&pieces);
-        assert_eq!(String::from_utf8_lossy(&printed), expected, "in pieces");
-        let file = command.file(number);
-        fs::write(&file, &bytes).expect("an input can be written");
-        let printed = command.program.output_of_file(&file);
-        assert_eq!(String::from_utf8_lossy(&printed), expected, "from a file");
-        fs::remove_file(&file).expect("an input can be removed");
+        command.agrees_in_pieces(number, &inputs.input(), &mut random);
     }
 }
 

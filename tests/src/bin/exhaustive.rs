@@ -372,7 +372,7 @@ impl Task {
         Pairs { halves, control }
     }
 
-    /// A line for `replay` for each lane of a block that differs alone.
+    /// A line for `repeat` for each lane of a block that differs alone.
     fn print(&self, block: &Block) {
         let (pairs, flags) = self.library(block);
         for lane in 0..32 {

@@ -2,7 +2,7 @@
 //!
 //! `RIDGECROOK_STEPS` sets the number of instructions and `RIDGECROOK_SEED` the seed. A known
 //! difference (`differences.rs`) is counted by its name, every other one is a failure with a line
-//! for `replay`. `--record` writes what the processor says to tests/data/processor.txt, and
+//! for `repeat`. `--record` writes what the processor says to tests/data/processor.txt, and
 //! `--faults` sees that each of a list of faults is found out. The last line is `N passed, M
 //! failed`; where the processor has not the instructions a line says so, and both are 0.
 

@@ -1,6 +1,6 @@
 //! Runs one printed line again, of the arithmetic, of a step, of a save, a load or a move:
-//! `cargo run --release --bin replay -- add m1 u0 3C00 BC00`
-//! `cargo run --release --bin replay -- step code=62F5744858C2 z1=3C00`
+//! `cargo run --release --bin repeat -- add m1 u0 3C00 BC00`
+//! `cargo run --release --bin repeat -- step code=62F5744858C2 z1=3C00`
 //! A step is also shown as this machine's processor does it, where that can be.
 
 use ridgecrook_tests::case::Case;
@@ -18,14 +18,14 @@ fn main() {
     let agrees = match line.split_whitespace().next() {
         Some("step") => {
             let step = read::<Step>(&line);
-            let agrees = replay(&step, library::step_outcome);
+            let agrees = repeat(&step, library::step_outcome);
             println!("processor       {}", by_processor(&step));
             agrees
         }
         Some(word) if word.parse::<Call>().is_ok() => {
-            replay(&read::<Transfer>(&line), library::transfer_outcome)
+            repeat(&read::<Transfer>(&line), library::transfer_outcome)
         }
-        _ => replay(&read::<Case>(&line), library::answer),
+        _ => repeat(&read::<Case>(&line), library::answer),
     };
     if !agrees {
         exit(1);
@@ -35,14 +35,14 @@ fn main() {
 fn read<C: FromStr<Err = String>>(line: &str) -> C {
     line.parse().unwrap_or_else(|error| {
         eprintln!(
-            "{error}\nusage: replay add m1 u0 3C00 BC00, or any other line that a test printed"
+            "{error}\nusage: repeat add m1 u0 3C00 BC00, or any other line that a test printed"
         );
         exit(2);
     })
 }
 
 /// Prints both outcomes, and whether they agree.
-fn replay<C: Compared>(case: &C, answer: fn(&C) -> C::Outcome) -> bool {
+fn repeat<C: Compared>(case: &C, answer: fn(&C) -> C::Outcome) -> bool {
     let (outcome, expected) = (answer(case), case.expected());
     println!("{case}");
     println!("library         {}", case.shown(&outcome));
