@@ -2,7 +2,7 @@
 //! plain program, beside the same million steps made by the library with nothing compared.
 
 use crate::steps::{from_memory, Lanes};
-use crate::{time, LT_OS};
+use crate::LT_OS;
 use ridgecrook_bench::plain_replay::{self, Report};
 use ridgecrook_bench::{library_replay, recorder::Recorder};
 use ridgecrook_tests::assemble::{Encoding, LANES_8};
@@ -24,8 +24,8 @@ const SETTING: &str =
     "replays: of a million items, finite random lanes or tame ones, mode 0, exceptions masked.
 Destinations are registers 0 to 7 or the masks, sources registers 8 to 31, which stay as they are,
 or 64 bytes of memory. step: the library's steps by the same code and memory, one call each, with
-nothing compared; item: its replay; nanoseconds, then millions a second. share: items a second for
-each step a second; ratio: the library's replay to the plain one.";
+nothing compared; item: its replay; nanoseconds of processor time, then millions a second. share:
+items a second for each step a second; ratio: the library's replay to the plain one.";
 
 /// An instruction, and how many bytes of memory are lent with it.
 type Drawn = (Vec<u8>, usize);
@@ -145,6 +145,40 @@ fn refused(random: &mut Random) -> Drawn {
     (code, memory)
 }
 
+/// `struct timespec` of 64-bit Linux.
+#[repr(C)]
+struct Time {
+    seconds: i64,
+    nanoseconds: i64,
+}
+
+/// CLOCK_THREAD_CPUTIME_ID.
+const THREAD: i32 = 3;
+
+extern "C" {
+    fn clock_gettime(clock: i32, time: *mut Time) -> i32;
+}
+
+/// The time that this thread has had a processor.
+fn processor_time() -> f64 {
+    let mut time = Time {
+        seconds: 0,
+        nanoseconds: 0,
+    };
+    // Safety: the call writes the one struct that it is lent.
+    assert_eq!(unsafe { clock_gettime(THREAD, &mut time) }, 0);
+    time.seconds as f64 * 1e9 + time.nanoseconds as f64
+}
+
+/// Nanoseconds of one long call. By the processor's time: other rows have passes of some
+/// milliseconds, the least of which nothing interrupts, but a million items take longer than the
+/// system lets a thread run where others wait.
+fn time_whole(call: impl FnOnce()) -> f64 {
+    let start = processor_time();
+    call();
+    processor_time() - start
+}
+
 /// A recording, and what it begins with.
 struct Recorded {
     start: Machine,
@@ -179,10 +213,7 @@ impl Recorded {
     fn steps(&self) -> f64 {
         let mut machine = self.start.clone();
         let items = black_box(&self.recorder.recording[self.state_size..]);
-        let (elapsed, _) = time(1, |_| {
-            step_through(&mut machine, items);
-            machine.pointer
-        });
+        let elapsed = time_whole(|| step_through(&mut machine, items));
         assert!(machine == self.recorder.machine, "other steps");
         elapsed / ITEMS as f64
     }
@@ -190,10 +221,7 @@ impl Recorded {
     /// Nanoseconds an item.
     fn replay(&self, replay: fn(&[u8]) -> Report) -> f64 {
         let mut report = Report::BAD_STATE;
-        let (elapsed, _) = time(1, |_| {
-            report = replay(black_box(&self.recorder.recording));
-            report.item
-        });
+        let elapsed = time_whole(|| report = replay(black_box(&self.recorder.recording)));
         assert_eq!(report, Report::same(ITEMS as u64));
         elapsed / ITEMS as f64
     }
