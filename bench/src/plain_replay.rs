@@ -1,4 +1,4 @@
-//! The replay of a recording (M-109) with the same checks and reports as the library's, unproved
+//! The replay of a recording with the same checks and reports as the library's, unproved
 //! and written for speed: an item's fields are taken from where they stand, nothing is copied, and
 //! an instruction is not decoded a second time for its destination.
 
