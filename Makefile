@@ -1,7 +1,7 @@
 # make           every crate proved, the static library and the command compiled
 # make demo      the compaction of a small log (examples/compaction.c)
 # make test      the merge gate, .ci/run
-# make bench     speed, side by side with plain Rust
+# make bench     speed, side by side with plain Rust; ARGUMENTS names groups: arithmetic, steps, saved, replays
 # make witness   a million instructions by this machine's processor and the library (RIDGECROOK_STEPS)
 # make exhaustive  every pair of halves by both, half an hour on a core; options in ARGUMENTS. Without AVX512-FP16: comparisons alone,
 #                by singles, in two minutes, and a sample of the rest by the second program
@@ -30,7 +30,7 @@ test:
 	@.ci/run
 
 bench: $(LIBRARY)
-	@cd bench && cargo run --offline --release --quiet
+	@cd bench && cargo run --offline --release --quiet -- $(ARGUMENTS)
 
 witness: $(LIBRARY)
 	@cd tests && RIDGECROOK_STEPS=$${RIDGECROOK_STEPS:-1000000} cargo run --offline --release --quiet --bin witness

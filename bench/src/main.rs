@@ -1,12 +1,18 @@
 //! Times the library, called through C, beside the plain implementations, in one run and by turns,
-//! and prints one table: each operation of the arithmetic, then whole steps, then saved forms.
+//! and prints one table: each operation of the arithmetic, then whole steps, then saved forms; and
+//! another of replays. Arguments name the groups of rows that are wanted.
 
 mod arithmetic;
+mod replays;
 mod saved;
 mod steps;
 
 use ridgecrook_tests::random::Random;
+use std::process::exit;
 use std::time::Instant;
+
+/// The groups of rows, in the order that they are printed in.
+const GROUPS: [&str; 4] = ["arithmetic", "steps", "saved", "replays"];
 
 /// Everything is timed once in each round; the least time counts, since whatever else runs on the
 /// machine only adds.
@@ -77,13 +83,30 @@ fn sum(bytes: &[u8]) -> u64 {
     })
 }
 
-fn main() {
-    let mut rows = arithmetic::rows();
-    rows.extend(steps::rows(ROUNDS));
-    rows.extend(saved::rows());
-    for _ in 0..ROUNDS {
-        rows.iter_mut().for_each(Row::round);
+/// The groups that the arguments name, or all where there are none.
+fn wanted() -> Vec<String> {
+    let named: Vec<String> = std::env::args().skip(1).collect();
+    if let Some(other) = named.iter().find(|name| !GROUPS.contains(&name.as_str())) {
+        eprintln!("no group {other}: there are {}", GROUPS.join(", "));
+        exit(2);
     }
+    if named.is_empty() {
+        return GROUPS.map(String::from).to_vec();
+    }
+    named
+}
+
+/// A group's rows of the first table.
+fn rows(group: &str) -> Vec<Row> {
+    match group {
+        "arithmetic" => arithmetic::rows(),
+        "steps" => steps::rows(ROUNDS),
+        "saved" => saved::rows(),
+        _ => Vec::new(),
+    }
+}
+
+fn print_calls(rows: &[Row]) {
     println!("nanoseconds a call: an operation on halves, a whole step, or one with a saved form");
     println!("tame halves: 2 to the -4 to 2 to the 4, in mode 0 alone; else modes mixed;");
     println!("comparisons of halves by LT_OS where they are tame, else predicates mixed;");
@@ -94,4 +117,18 @@ fn main() {
         "call", "on", "library", "plain", "ratio"
     );
     rows.iter().for_each(Row::print);
+}
+
+fn main() {
+    let wanted = wanted();
+    let mut rows: Vec<Row> = wanted.iter().flat_map(|group| rows(group)).collect();
+    if !rows.is_empty() {
+        for _ in 0..ROUNDS {
+            rows.iter_mut().for_each(Row::round);
+        }
+        print_calls(&rows);
+    }
+    if wanted.iter().any(|group| group == "replays") {
+        replays::print_rows();
+    }
 }

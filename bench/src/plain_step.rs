@@ -29,6 +29,24 @@ pub fn step(machine: &mut Machine, code: &[u8], memory: &[u8]) -> Answer {
     }
 }
 
+/// Where an instruction writes.
+pub enum Destination {
+    Vector(usize),
+    Mask(usize),
+}
+
+/// Of code that a step has decoded, which its answers 0, 7 and 8 say: two bytes are enough then, as
+/// VCMPPH alone writes a mask, and alone stands in map 3.
+#[inline]
+pub fn destination(code: &[u8]) -> Destination {
+    let [_, byte_1, _, _, _, modrm] = *code.first_chunk().expect("a decoded instruction");
+    let number = fields::destination(byte_1, modrm);
+    match byte_1 & 7 {
+        3 => Destination::Mask(number % 8),
+        _ => Destination::Vector(number),
+    }
+}
+
 /// Rows that have a way of their own.
 enum Group {
     Packed,

@@ -24,8 +24,8 @@ type Step = fn(&mut Machine, &[u8], &[u8]) -> Answer;
 
 /// The halves of a row's registers and memory.
 #[derive(Clone, Copy)]
-enum Lanes {
-    /// Any finite ones, the four modes mixed.
+pub enum Lanes {
+    /// Any finite ones, the four modes mixed where rows change the control word.
     Random,
     /// As embeddings have them, in mode 0.
     Tame,
@@ -47,7 +47,7 @@ impl Lanes {
         }
     }
 
-    fn bytes(self, random: &mut Random, halves: usize) -> Vec<u8> {
+    pub fn bytes(self, random: &mut Random, halves: usize) -> Vec<u8> {
         (0..halves)
             .flat_map(|_| self.half(random).to_le_bytes())
             .collect()
@@ -181,8 +181,8 @@ const fn changed(name: &'static str, change: fn(&mut Encoding)) -> Kind {
     }
 }
 
-/// Memory at register 3, whose value the rows change from step to step.
-fn from_memory(e: &mut Encoding) {
+/// Memory at register 3, whose value these rows change from step to step.
+pub fn from_memory(e: &mut Encoding) {
     (e.mode, e.rm, e.b) = (0, 3, 0);
 }
 

@@ -104,8 +104,7 @@ impl Fields {
 
     #[inline]
     pub fn destination(&self) -> usize {
-        let low = self.modrm >> 3 & 7;
-        usize::from(low | !self.byte_1 >> 4 & 8 | !self.byte_1 & 16)
+        destination(self.byte_1, self.modrm)
     }
 
     /// The second source, in register form.
@@ -124,6 +123,13 @@ impl Fields {
             (machine.control >> 13 & 3, !machine.control >> 11 & 1)
         }
     }
+}
+
+/// R' R reg.
+#[inline]
+pub fn destination(byte_1: u8, modrm: u8) -> usize {
+    let low = modrm >> 3 & 7;
+    usize::from(low | !byte_1 >> 4 & 8 | !byte_1 & 16)
 }
 
 /// None where the SIB byte is missing.
