@@ -8,3 +8,10 @@ pub enum Report {
     BadItem(usize),
     BadState,
 }
+
+// A report as C is handed it (R14.9).
+#[repr(C)]
+pub struct Reported {
+    pub report: u64,
+    pub item: u64,
+}
