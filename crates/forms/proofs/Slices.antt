@@ -18,6 +18,10 @@ module _ {A : Type 0} where
   pub length-part : (at n : ℕ) (l : List A) → at + n ≤ length l → length (take n (drop at l)) ≡ n
   length-part at n l h = length-take-le n (drop at l) (omega (arith, length-drop at l))
 
+  -- a part that is lent to the end
+  pub to-end : (n : ℕ) (l : List A) → take (length l - n) (drop n l) ≡ drop n l
+  to-end n l = take-all (length l - n) (drop n l) (omega (arith, length-drop n l))
+
   -- of a part
   pub part-part : (b m at n : ℕ) (l : List A) → at + n ≤ m → take n (drop at (take m (drop b l))) ≡ take n (drop (b + at) l)
   part-part b m at n l h =

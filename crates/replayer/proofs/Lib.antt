@@ -1,3 +1,5 @@
 pub mod Finding
 pub mod Showing
 pub mod Comparing
+pub mod Playing
+pub mod Going
