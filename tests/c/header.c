@@ -1,6 +1,6 @@
 /*
- * The header by itself, before any other (R8.1, R8.5, R14.9): every function and every constant of it, in a file that is C99, C11 and C++ alike.
- * The constants are held against what calls answer, so a wrong number shows.
+ * The header by itself, before any other (R8.1, R8.5, R14.9): every function and every constant of it, in a file that is C99, C11 and
+ * C++ alike. The constants are held against what calls answer, so a wrong number shows.
  */
 #include "ridgecrook.h"
 
