@@ -1,4 +1,4 @@
-# make           every crate proved, the static library and the command compiled
+# make           every crate proved, the static library and the two programs compiled
 # make demo      the compaction of a small log (examples/compaction.c)
 # make test      the merge gate, .ci/run
 # make bench     speed, side by side with plain Rust; ARGUMENTS names groups: arithmetic, steps, saved, replays
@@ -6,7 +6,7 @@
 # make exhaustive  every pair of halves by both, half an hour on a core; options in ARGUMENTS. Without AVX512-FP16: comparisons alone,
 #                by singles, in two minutes, and a sample of the rest by the second program
 LIBRARY := target/staticlib/libridgecrook.a
-MADE := $(LIBRARY) target/bin/run target/stamp/half_laws
+MADE := $(LIBRARY) target/bin/run target/bin/replay target/stamp/half_laws
 SOURCES := crates.txt $(shell find crates -type f -not -path "*/must-fail/*")
 export CARGO_TARGET_DIR := $(CURDIR)/target/cargo
 

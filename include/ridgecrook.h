@@ -1,6 +1,6 @@
 /*
- * Ridgecrook for C: an interpreter of AVX512-FP16 machine code, one instruction a call, and the
- * half arithmetic (IEEE 754 binary16) below it.
+ * Ridgecrook for C: an interpreter of AVX512-FP16 machine code, one instruction a call, the half
+ * arithmetic (IEEE 754 binary16) below it, and the replay of runs that were recorded elsewhere.
  *
  * Link with libridgecrook.a, which `rt staticlib ridgecrook` writes to target/staticlib/. The
  * library needs nothing else, and is compiled for plain x86-64: no processor with AVX512-FP16 is
@@ -397,6 +397,87 @@ size_t ridgecrook_moved_size(uint32_t version, const uint8_t *source, size_t sou
  */
 uint32_t ridgecrook_move(uint32_t version, const uint8_t *source, size_t source_length,
                          uint8_t *target, size_t target_length);
+
+/*
+ * A recording (R14.1, R14.2): a run as it went elsewhere. It is a saved form of either version, and
+ * behind it one item for each step, up to the end. Of an item with c bytes of code and m bytes of
+ * memory, with the highest byte of every number first:
+ *
+ *   at         bytes
+ *           0      4  the length: the number of bytes that follow these four, 73 + c + m
+ *           4      1  the version, 1
+ *           5      1  the answer that the step is to give
+ *           6      1  c, at most 15
+ *           7      c  the code
+ *       7 + c      2  m, at most 4,096
+ *       9 + c      m  the memory
+ *   9 + c + m      4  the control word that is to stand after the step
+ *  13 + c + m     64  the destination that is to stand after it (R14.5):
+ *                     with the answers 0, 7 and 8 what the instruction's destination holds, a
+ *                     vector register as a step takes it, or a mask in the first 8 bytes and
+ *                     zeros behind; with every other answer zeros
+ *
+ * With 7 and 8 a step leaves its destination as it was, so that is what stands here. An item has 77
+ * to 4,188 bytes.
+ *
+ * An item is well formed (R14.3) if all its bytes are there, its length is the number of those
+ * behind it, its version is 1, and c and m are not above their limits. Bytes behind the last whole
+ * item are an item that is not well formed.
+ *
+ * A recording of one step, vaddph zmm0, zmm1, zmm2, from a state whose saved form stands in
+ * `recording` already, `size` bytes of it:
+ *
+ *     static const uint8_t step[] = {0, 0, 0, 79, 1, RIDGECROOK_DONE,
+ *                                    6, 0x62, 0xF5, 0x74, 0x48, 0x58, 0xC2, 0, 0};
+ *     uint8_t *item = recording + size;
+ *     memcpy(item, step, 15);
+ *     for (int i = 0; i < 4; i++) {
+ *         item[15 + i] = (uint8_t)(control >> (24 - 8 * i));
+ *     }
+ *     memcpy(item + 19, vectors, RIDGECROOK_REGISTER_SIZE);
+ *     ridgecrook_report r = ridgecrook_replay(recording, size + 83);
+ *
+ * Here `control` and `vectors` are those after the step. If they are ours, r.report is
+ * RIDGECROOK_SAME and r.item is 1.
+ */
+
+/* The reports of a replay (R14.7); they are no answers, and have numbers of their own. */
+#define RIDGECROOK_SAME 0      /* every item is well formed and agrees */
+#define RIDGECROOK_DIFFERS 1   /* an item is well formed and does not agree */
+#define RIDGECROOK_BAD_ITEM 2  /* an item is not well formed */
+#define RIDGECROOK_BAD_STATE 3 /* what stands in front does not load */
+
+/* What a replay hands back: 16 bytes, without padding. */
+typedef struct {
+    uint64_t report; /* RIDGECROOK_SAME to RIDGECROOK_BAD_STATE */
+    uint64_t item;   /* with RIDGECROOK_DIFFERS and RIDGECROOK_BAD_ITEM the item, counted from 0;
+                        with RIDGECROOK_SAME how many there are; with RIDGECROOK_BAD_STATE 0 */
+} ridgecrook_report;
+
+/*
+ * Replays a recording (R14.4 to R14.9): loads the saved form in front, makes the step of each item
+ * on its own code and memory, and holds what it gives against the item. Each step goes on from the
+ * state that the one before has left, whatever its answer was, and never from what an item expects.
+ *
+ * An item agrees if the step's answer, the control word after it and the destination are the item's
+ * (R14.6). A number that no step answers does not agree; it makes no item ill formed. The replay
+ * ends at the first item that is not well formed, which is asked first, or does not agree: all
+ * items before it are well formed and agree, and none behind it is looked at. The report is
+ *
+ *   RIDGECROOK_BAD_STATE  the bytes up to the end that the first length field names are not all
+ *                         there, are not a saved form, or have a control word above 0xFFFF
+ *   RIDGECROOK_BAD_ITEM   item `item` is not well formed
+ *   RIDGECROOK_DIFFERS    item `item` is well formed and does not agree
+ *   RIDGECROOK_SAME       none of these: there are `item` items, up to the last byte, and all agree
+ *
+ * A recording may have any length and any number of items. It is only read, and not copied; the
+ * state that the steps are made on is on the stack, with some 2.3 KB. Nothing that was lent is
+ * written, whatever the report.
+ *
+ * The pointer (R8.4): `recording` is good for recording_length bytes, and may be null where that is
+ * 0 (RIDGECROOK_BAD_STATE). It needs no alignment.
+ */
+ridgecrook_report ridgecrook_replay(const uint8_t *recording, size_t recording_length);
 
 #ifdef __cplusplus
 }

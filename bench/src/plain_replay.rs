@@ -1,6 +1,6 @@
-//! The replay of a recording with the same checks and reports as the library's, unproved
-//! and written for speed: an item's fields are taken from where they stand, nothing is copied, and
-//! an instruction is not decoded a second time for its destination.
+//! The replay of a recording (R14.1 to R14.7) with the same checks and reports as the library's,
+//! unproved and written for speed: an item's fields are taken from where they stand, nothing is
+//! copied, and an instruction is not decoded a second time for its destination.
 
 use crate::plain_saved;
 use crate::plain_step::{self, Destination};

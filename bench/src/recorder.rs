@@ -1,6 +1,6 @@
-//! Recordings as a recorder makes them: the state that a run begins with, then an item for each
-//! step that is made. Which register a step writes is told by the second program, so that the plain
-//! replay, which finds it in its own way, is held against another.
+//! Recordings (R14.1, R14.2) as a recorder makes them: the state that a run begins with, then an
+//! item for each step that is made. Which register a step writes is told by the second program, so
+//! that the plain replay, which finds it in its own way, is held against another.
 
 use ridgecrook_tests::machine::{Answer, Machine, REGISTER_SIZE};
 use ridgecrook_tests::second::encoding::{decode, Destination};

@@ -1,5 +1,5 @@
-//! The rows of replays: a recording of a million items replayed whole, by the library and by the
-//! plain program, beside the same million steps made by the library with nothing compared.
+//! The rows of replays (R14.9): a recording of a million items replayed whole, by the library and
+//! by the plain program, beside the same million steps made by the library with nothing compared.
 
 use crate::steps::{from_memory, Lanes};
 use crate::LT_OS;

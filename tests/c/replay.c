@@ -1,8 +1,8 @@
 /*
- * Replays of recordings as a C engineer uses them: reports on recordings that were put together
- * here by hand, and what C must keep (R8.4): a null pointer with length 0, the ends of what is lent
- * on both sides, a recording that may not be written, every alignment, lengths above 2 to the 32,
- * many items, and any bytes at all.
+ * Replays of recordings as a C engineer uses them (R14.9): reports on recordings that were put
+ * together here by hand (R14.2, R14.7), and what C must keep (R8.4): a null pointer with length 0,
+ * the ends of what is lent on both sides, a recording that may not be written, every alignment,
+ * lengths above 2 to the 32, many items, and any bytes at all.
  *
  *   replay [RECORDINGS [SEED]]     20,000 damaged recordings if nothing is said, and one of 50 times
  *                                  so many items

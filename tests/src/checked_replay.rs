@@ -1,4 +1,4 @@
-//! The library's replay of a recording, held against the second program's.
+//! The library's replay of a recording (R14.9), held against the second program's (R12.3).
 
 use crate::library::{self, Reported};
 use crate::second::replay::{replay, Report};

@@ -88,7 +88,7 @@ impl Program {
     }
 
     /// What is printed on standard output and on standard error, with any standard input; the exit
-    /// status is 0 (R10.7).
+    /// status is 0 (R10.7, R14.10).
     pub fn printed(&self, stdin: impl Into<Stdio>) -> (Vec<u8>, Vec<u8>) {
         let output = Command::new(&self.path).stdin(stdin).output();
         let output = output.expect("the program starts");
@@ -96,7 +96,7 @@ impl Program {
         (output.stdout, output.stderr)
     }
 
-    /// What is printed, of a program that ends by itself, with exit status 0 (R10.7).
+    /// What is printed, of a program that ends by itself, with exit status 0 (R10.7, R14.10).
     fn finish(&self, child: Child) -> Vec<u8> {
         let output = child.wait_with_output().expect("the program ends");
         assert!(output.status.success(), "the program: {}", output.status);

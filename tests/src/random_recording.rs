@@ -1,5 +1,5 @@
-//! Random recordings, of every instruction and with every answer that a step has, and damage to
-//! them.
+//! Random recordings (R14.1), of every instruction and with every answer that a step has, and
+//! damage to them.
 
 use crate::machine::{Machine, ALL_MASKED, VECTORS_SIZE};
 use crate::random::Random;

@@ -1,5 +1,5 @@
 //! How a program reads its standard input: only input that was read to its end is looked at; if a
-//! read fails, one line on standard error says so (R10.7).
+//! read fails, one line on standard error says so (R10.7, R14.10).
 
 use crate::program::{Place, Program};
 use std::fs::File;

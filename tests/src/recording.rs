@@ -1,13 +1,13 @@
-//! Recordings for the tests of the replay, written item by item from what the second program does.
-//! (`recorded` is about something else, a processor's answers that are kept.)
+//! Recordings for the tests of the replay (R14.1), written item by item from what the second
+//! program does. (`recorded` is about something else, a processor's answers that are kept.)
 
 use crate::machine::{Machine, Step, REGISTER_SIZE};
 use crate::second;
 use crate::second::replay::{destination, Report, ITEM_VERSION};
 use crate::second::saved::form;
 
-/// An item of which every field may have any value. Its length and its two counts are those of what
-/// it holds, of which as many bits are kept as they have room for.
+/// An item (R14.2) of which every field may have any value. Its length and its two counts are those
+/// of what it holds, of which as many bits are kept as they have room for.
 #[derive(Clone, Debug, PartialEq, Eq)]
 pub struct Item {
     pub version: u8,

@@ -1,5 +1,5 @@
-//! The program that replays a recording, as a process: its one line, held against the second
-//! program's.
+//! The program that replays a recording, as a process (R14.10): its one line, held against the
+//! second program's (R12.3).
 //!
 //! `RIDGECROOK_REPLAY` names the program (otherwise `target/bin/replay`), `RIDGECROOK_SEED` sets the
 //! seed, `RIDGECROOK_INPUTS` the number of random recordings. One whose line differs is kept as a

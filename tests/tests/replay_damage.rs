@@ -1,6 +1,6 @@
-//! Damaged recordings: every byte of an item and of the state, every cut, bytes and items that are
-//! lost, doubled or in another order. The library's report is held against the second program's,
-//! and both against what is due, where the place alone tells that.
+//! Damaged recordings (R14.3, R14.6, R14.7): every byte of an item and of the state, every cut,
+//! bytes and items that are lost, doubled or in another order. The library's report is held against
+//! the second program's, and both against what is due, where the place alone tells that.
 
 use ridgecrook_tests::checked_replay::Replays;
 use ridgecrook_tests::command_input::{one_and, ADD, DIVIDE};

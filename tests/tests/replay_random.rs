@@ -1,5 +1,5 @@
-//! Random recordings by the library and the second program, short and long, as they are and
-//! damaged, and a count of what they reach.
+//! Random recordings by the library and the second program (R12.3), short and long, as they are and
+//! damaged, and a count of what they reach: reports (R14.7), answers, and destinations (R14.5).
 //!
 //! `RIDGECROOK_SEED` sets the seed, `RIDGECROOK_RECORDINGS` the number of recordings. One whose
 //! report differs is kept as a file, which the message names: `target/bin/replay < FILE` replays it

@@ -1,6 +1,6 @@
-//! Recordings that a person wrote, byte by byte, with the report that is due: by the second program
-//! and the library. Nothing here is taken from the writer of recordings that other tests use.
-//!
+//! Recordings that a person wrote, byte by byte, with the report that is due (R14.1 to R14.7):
+//! by the second program and the library. Nothing here is taken from the writer of recordings that
+//! other tests use.
 //! A recording is written in hexadecimal digits; `*` repeats what stands before it: `003C*32` is a
 //! register of ones. A space has no meaning.
 
@@ -101,7 +101,7 @@ fn states_and_items() {
     );
 }
 
-/// Each step goes on from the state that the one before left.
+/// Each step goes on from the state that the one before left (R14.4).
 #[test]
 fn the_state_goes_on() {
     check(
@@ -121,7 +121,7 @@ fn the_state_goes_on() {
     );
 }
 
-/// An answer number that is not ours differs, be it of another answer or of none.
+/// An answer number that is not ours differs, be it of another answer or of none (R14.6).
 #[test]
 fn answer_numbers() {
     for answer in 1..=255 {
@@ -172,7 +172,7 @@ fn control_words() {
     );
 }
 
-/// The destination is the register that the instruction names.
+/// The destination is the register that the instruction names (R14.5).
 #[test]
 fn vector_destinations() {
     for (code, name) in [
@@ -217,7 +217,7 @@ fn vector_destinations() {
     );
 }
 
-/// Of a mask the 8 bytes stand first, the highest in front, and zeros behind them.
+/// Of a mask the 8 bytes stand first, the highest in front, and zeros behind them (R14.5).
 #[test]
 fn mask_destinations() {
     // 1 < zmm2 in lanes 0 to 7 and 16; k1 had ones above its 32 lanes.
@@ -269,7 +269,7 @@ fn mask_destinations() {
 }
 
 /// With answers 3, 4 and 5 zeros stand for the destination, whatever the bytes seem to name; the
-/// state stays, and the replay goes on.
+/// state stays, and the replay goes on (R14.4, R14.5).
 #[test]
 fn refused_bytes() {
     for (answer, code, name) in [
@@ -481,7 +481,7 @@ fn the_pointer() {
     );
 }
 
-/// Every step has its own item's memory and no other.
+/// Every step has its own item's memory and no other (R14.4).
 #[test]
 fn own_memory() {
     let two = "0000008F 01 00 06 62F574485800 0040 0040*32 00001F80 0042*32";
@@ -499,7 +499,7 @@ fn own_memory() {
     );
 }
 
-/// At most 15 bytes of code and 4,096 of memory.
+/// At most 15 bytes of code and 4,096 of memory (R14.3).
 #[test]
 fn limits() {
     let code_15 = "00000058 01 00 0F 62F5744858C2 90*9 0000 00001F80 0042*32";
@@ -538,7 +538,7 @@ fn limits() {
     );
 }
 
-/// Items that are not well formed, which is asked of each item before whether it agrees.
+/// Items that are not well formed (R14.3), which is asked of each item before whether it agrees.
 #[test]
 fn bad_items() {
     let sum = "01 00 06 62F5744858C2 0000 00001F80 0042*32";
@@ -589,7 +589,7 @@ fn bad_items() {
     );
 }
 
-/// The first item that is wrong decides, and later ones are not reached.
+/// The first item that is wrong decides, and later ones are not reached (R14.7).
 #[test]
 fn the_first_that_is_wrong() {
     check(
@@ -608,7 +608,7 @@ fn the_first_that_is_wrong() {
     );
 }
 
-/// A starting state that does not load, whatever follows.
+/// A starting state that does not load, whatever follows (R14.7).
 #[test]
 fn bad_states() {
     for state in [

@@ -1,5 +1,6 @@
 //! The examples of docs/RULES.md (R12.3): each row of its tables by the second program and by the
-//! library, the command's by a shell, as a reader would paste it, and the definition that it shows.
+//! library, the programs' by a shell, as a reader would paste them, and the definition that it
+//! shows.
 
 use ridgecrook_tests::case::Case;
 use ridgecrook_tests::compare::Compared;
@@ -88,19 +89,41 @@ fn block<'a>(section: &'a str, from: &str) -> &'a str {
     rest.split_once("```").expect("the end of a block").0
 }
 
-/// Both inputs, one in each version of the saved form.
+/// What a shell prints that is given what a reader would paste.
+fn pasted(input: &str) -> String {
+    let mut shell = Command::new("sh");
+    shell.args(["-c", input]);
+    let output = shell.current_dir(root()).output().expect("a shell");
+    assert_eq!(String::from_utf8_lossy(&output.stderr), "");
+    String::from_utf8_lossy(&output.stdout).to_string()
+}
+
+/// Both inputs of the command, one in each version of the saved form, and the replay's (R12.8).
 #[test]
 fn the_command_examples() {
     let section = examples();
-    let expected = block(&section, "prints (R10.4, R10.5)\n\n```\n");
+    let lines = block(&section, "prints (R10.4, R10.5)\n\n```\n");
+    let report = block(&section, "prints (R14.7, R14.10)\n\n```\n");
     let inputs: Vec<&str> = section.split("```sh\n").skip(1).collect();
-    assert_eq!(inputs.len(), 2);
-    for input in inputs {
-        let mut shell = Command::new("sh");
-        shell.args(["-c", input.split_once("```").expect("the end of a block").0]);
-        let output = shell.current_dir(root()).output().expect("a shell");
-        assert_eq!(String::from_utf8_lossy(&output.stderr), "");
-        assert_eq!(String::from_utf8_lossy(&output.stdout), expected);
+    assert_eq!(inputs.len(), 3);
+    for (input, expected) in inputs.iter().zip([lines, lines, report]) {
+        let (input, _) = input.split_once("```").expect("the end of a block");
+        assert_eq!(pasted(input), expected);
+    }
+}
+
+/// What the page says of the replay's input with a change.
+#[test]
+fn the_replay_example_changed() {
+    let section = examples();
+    let (_, input) = section.rsplit_once("```sh\n").expect("the replay's input");
+    let (input, _) = input.split_once("```").expect("the end of a block");
+    for (from, to, report) in [
+        ("\\001'; head -c 56", "\\002'; head -c 56", "differs at 1\n"),
+        ("; head -c 62 /dev/zero\n}", "\n}", "bad item 3\n"),
+    ] {
+        assert_eq!(input.matches(from).count(), 1, "{from}");
+        assert_eq!(pasted(&input.replace(from, to)), report);
     }
 }
 

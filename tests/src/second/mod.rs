@@ -4,7 +4,7 @@
 //! `half` has R6.1 to R6.3, `operations` R6.5 to R6.15, `exact` R6.16, `rounding` R6.17 to R6.24,
 //! `comparison` R6.25 to R6.28; `encoding` has the bytes of an instruction (sections 2 and 3),
 //! `step` all else of a step (4, 5 and 7); `saved` has the saved form (9), `command` what the
-//! command prints (10), `replay` what is reported of a recording.
+//! command prints (10), `replay` what is reported of a recording (14).
 
 pub mod command;
 pub mod comparison;

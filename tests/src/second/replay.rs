@@ -1,7 +1,9 @@
-//! The replay of a recorded run: what is reported of a recording, and what the program prints.
+//! The replay of a recorded run: what is reported of a recording (R14.1 to R14.7), and what the
+//! program prints (R14.10).
 //!
 //! A recording is a saved form of a state, which ends where its length field says, and items up to
-//! the end. An item is a step as it was seen elsewhere. Every number has its highest byte first:
+//! the end (R14.1). An item is a step as it was seen elsewhere (R14.2). Every number has its
+//! highest byte first:
 //!
 //! | bytes | |
 //! |---|---|
@@ -22,17 +24,17 @@ use super::step;
 use crate::machine::{Machine, Step, StepOutcome, REGISTER_SIZE, VECTORS_SIZE};
 use std::fmt;
 
-/// The most bytes of code and of memory in an item.
+/// The most bytes of code and of memory in an item (R14.3).
 pub const CODE_LIMIT: usize = 15;
 pub const MEMORY_LIMIT: usize = 4096;
 
-/// The version of an item.
+/// The version of an item (R14.3).
 pub const ITEM_VERSION: u8 = 1;
 
-/// The most bytes that the program takes.
+/// The most bytes that the program takes (R14.10).
 pub const INPUT_LIMIT: usize = 65_536;
 
-/// What a replay reports. Items are counted from 0.
+/// What a replay reports (R14.7). Items are counted from 0.
 #[derive(Clone, Copy, Debug, PartialEq, Eq)]
 pub enum Report {
     /// Every item agrees; there are so many.
@@ -46,7 +48,7 @@ pub enum Report {
 }
 
 impl Report {
-    /// The number of the report in the C interface.
+    /// The number of the report in the C interface (R14.9).
     pub fn number(self) -> u64 {
         match self {
             Report::Same(_) => 0,
@@ -76,7 +78,7 @@ impl fmt::Display for Report {
     }
 }
 
-/// All that stands on standard output after the program has read the input.
+/// R14.10: all that stands on standard output after the program has read the input.
 pub fn output(input: &[u8]) -> String {
     if input.len() > INPUT_LIMIT {
         return "too long\n".to_string();
@@ -84,7 +86,7 @@ pub fn output(input: &[u8]) -> String {
     format!("{}\n", replay(input))
 }
 
-/// What is reported of a recording.
+/// R14.7: what is reported of a recording.
 pub fn replay(recording: &[u8]) -> Report {
     let Some((mut machine, mut rest)) = start(recording) else {
         return Report::BadState;
@@ -102,7 +104,7 @@ pub fn replay(recording: &[u8]) -> Report {
         if !agrees(&item, &outcome) {
             return Report::Differs(number);
         }
-        // Whatever the answer was, the next item goes on from here.
+        // R14.4: whatever the answer was, the next item goes on from here.
         machine = outcome.after.machine;
         rest = left;
         number += 1;
@@ -110,7 +112,7 @@ pub fn replay(recording: &[u8]) -> Report {
     Report::Same(number)
 }
 
-/// The state that is loaded, and all that stands behind its form.
+/// R14.1: the state that is loaded, and all that stands behind its form.
 fn start(recording: &[u8]) -> Option<(Machine, &[u8])> {
     let (saved, rest) = recording.split_at_checked(saved_size(recording)?)?;
     let machine = load(saved, VECTORS_SIZE).ok()?;
@@ -125,7 +127,7 @@ struct Item<'a> {
     destination: &'a [u8],
 }
 
-/// The item in front, if it is well formed, and all that stands behind it.
+/// R14.2, R14.3: the item in front, if it is well formed, and all that stands behind it.
 fn first_item(recording: &[u8]) -> Option<(Item<'_>, &[u8])> {
     let mut rest = recording;
     let following = take(&mut rest, 4)?;
@@ -158,14 +160,14 @@ fn take_bytes<'a>(rest: &mut &'a [u8], count: usize) -> Option<&'a [u8]> {
     Some(taken)
 }
 
-/// Whether a step went as the item expects.
+/// R14.6: whether a step went as the item expects.
 fn agrees(item: &Item, outcome: &StepOutcome) -> bool {
     item.answer == u64::from(outcome.answer.number)
         && item.control == u64::from(outcome.after.machine.control)
         && item.destination == destination(outcome)
 }
 
-/// What an item holds of the destination of a step: with 0, 7 and 8 the register that the
+/// R14.5: what an item holds of the destination of a step: with 0, 7 and 8 the register that the
 /// instruction names, as it stands after the step, and else zeros. By the step's own answer.
 pub fn destination(outcome: &StepOutcome) -> [u8; REGISTER_SIZE] {
     let mut bytes = [0; REGISTER_SIZE];
