@@ -1,12 +1,11 @@
 -- The loop of the steps: what was printed so far, followed by the lines from the present offset on, is all that is to be printed. A step
 -- that is done moves the offset by six or more and prints 16 bytes at most, so the place never runs ahead of 16/6 of the offset.
 -- Assumes nothing.
-use Prim.Native.Nat.{ℕ, _+_, _*_, _-_, _≤_, _<_}
+use Prim.Native.Nat.{ℕ, _+_, _*_, _≤_, _<_}
 use mathlib.Core.Path.{_≡_, refl, sym, ap, _∙_}
 use mathlib.Core.List.{List, [], _++_, append-assoc}
 use native.Mathlib.Omega.{arith}
-use lib.ListN.{length, take, drop, length-drop}
-use lib.Seq.{take-all}
+use lib.ListN.{length, drop, length-drop}
 use Rattle.machine.specs.State.{State, Stepped}
 use Rattle.machine.specs.Step.{step}
 use Rattle.machine.specs.Answers.{Sized}
@@ -15,10 +14,6 @@ use Rattle.text.specs.Put.{Put}
 use Rattle.text.proofs.Writing.{none, followed}
 use Rattle.command.specs.Command.{stepLine, stopLine, room}
 use Rattle.command.proofs.Lines.{lines, at-end, goes-on, stops, step-most, step-short}
-
--- a part that is lent to its end
-pub to-end : (n : ℕ) (l : List ℕ) → take (length l - n) (drop n l) ≡ drop n l
-to-end n l = take-all (length l - n) (drop n l) (omega (arith, length-drop n l))
 
 pub record Going (memory code : List ℕ) (s₀ : State) (out₀ : List ℕ) (s : State) (offset at : ℕ) (out : List ℕ) : Type 0 where
   pub text : List ℕ

@@ -12,9 +12,10 @@ use lib.ListN.{length, getD, take, drop, length-drop}
 use lib.Seq.{drop-cons}
 use Rattle.machine.specs.State.{State}
 use Rattle.forms.specs.Numbers.{valueFrom}
-use Rattle.forms.specs.Saved.{sizeAt, Load, load}
-use Rattle.command.specs.Command.{badInput, linesFrom, blank, codeLength, codeOf, memoryOf, isLaidOut, isGood, printed}
-use Rattle.command.proofs.Going.{to-end}
+use Rattle.forms.specs.Saved.{sizeAt, Load, load, blank, loadFront}
+use Rattle.command.specs.Command.{badInput, linesFrom, codeLength, codeOf, memoryOf, isLaidOut, isGood, printed}
+use Rattle.forms.proofs.Front.{front-lent}
+use Rattle.forms.proofs.Slices.{to-end}
 
 pub two-bytes : (input : List ℕ) (n : ℕ) → n ≡ sizeAt input → n + 2 ≤ length input
     → getD input n 0 * 256 + getD input (n + 1) 0 ≡ codeLength input
@@ -79,8 +80,8 @@ module _ (input : List ℕ) where
 
   module _ (e : isLaidOut input ≡ true) {b : ℕ} (L : LaidOut input b) (s : State) (n : ℕ)
       (l : record { number = n; state = s } ≡ load (take (b - 0) input) blank) where
-    loads : record { number = n; state = s } ≡ load (take (sizeAt input) input) blank
-    loads = let z : b - 0 ≡ sizeAt input = omega (arith, L .size) in l ∙ rw z
+    loads : record { number = n; state = s } ≡ loadFront input
+    loads = l ∙ front-lent input (L .size)
 
     pub bad-load : (n ≡ 0 → ⊥) → printed input ≡ badInput
     unfolding printed isGood
@@ -93,6 +94,6 @@ module _ (input : List ℕ) where
     unfolding printed isGood
     good-lines z r f =
         let size : b + 2 + r - (b + 2) ≡ r = omega arith in
-        let state : load (take (sizeAt input) input) blank .state ≡ s = ap (λ (x : Load). x .state) (sym loads) in
+        let state : loadFront input .state ≡ s = ap (λ (x : Load). x .state) (sym loads) in
         rw (e, ← loads, eq-eqb n 0 z, size, to-end (b + 2 + r) input, f, L .size)
         (ap (λ (x : State). linesFrom (length (codeOf input)) (memoryOf input) (codeOf input) x 0) state)

@@ -15,12 +15,12 @@ use Rattle.machine.specs.Step.{wrongVectorFile, highControlBit}
 use Rattle.forms.specs.declared.Version.{Version}
 use Rattle.forms.specs.Numbers.{big}
 use Rattle.forms.specs.Form.{savedForm}
-use Rattle.forms.specs.Saved.{sizeAt, Load, load}
+use Rattle.forms.specs.Saved.{sizeAt, Load, load, blank, loadFront}
 use Rattle.forms.specs.Trips.{Held}
 use Rattle.forms.proofs.Numbers.{length-big, value-big}
 use Rattle.forms.proofs.Trips.{load-saved}
 use Rattle.forms.proofs.Sizes.{forms-in-front}
-use Rattle.command.specs.Command.{blank, codeLength, isLaidOut, isGood}
+use Rattle.command.specs.Command.{codeLength, isLaidOut, isGood}
 use Rattle.command.specs.Runs.{Taken, Takes}
 use Rattle.command.proofs.Input.{by-memory}
 
@@ -73,7 +73,8 @@ module _ (v : Version) (s : State) (code memory : List ℕ) (S : Held s) (file :
   unfolding wrongVectorFile blank
   blank-file = same (length (blank .vectors)) 2048 (length-table 2048 (λ k. 0))
 
-  loads : load (take (sizeAt (form ++ rest)) (form ++ rest)) blank ≡ record { number = 0; state = s }
+  loads : loadFront (form ++ rest) ≡ record { number = 0; state = s }
+  unfolding loadFront
   loads =
       ap (λ (l : List ℕ). load l blank) (rw size (take-at form rest (length form) (omega arith)))
       ∙ load-saved v s blank S file control blank-file

@@ -8,7 +8,7 @@ use Rattle.lists.specs.Lists.{table}
 use Rattle.machine.specs.State.{State, Stepped}
 use Rattle.machine.specs.Step.{step}
 use Rattle.forms.specs.Numbers.{numberIn}
-use Rattle.forms.specs.Saved.{sizeAt, load}
+use Rattle.forms.specs.Saved.{sizeAt, loadFront}
 use Rattle.text.specs.Text.{decimal, hex8, space, lineFeed}
 
 -- ---- lines, in ASCII
@@ -39,10 +39,6 @@ linesFrom (suc n) memory code s at =
 
 -- ---- R10.1: the input
 
--- R10.2: a state to load into
-unfoldable pub blank : State
-blank = record { vectors = table 2048 (λ k. 0); masks = table 8 (λ k. 0); general = table 16 (λ k. 0); control = 0; pointer = 0 }
-
 -- behind the saved form, which ends where its length field says (R9.13): how many bytes of code there are, the code, and memory to the end
 abbrev pub codeLength : List ℕ → ℕ
 codeLength input = numberIn input (sizeAt input) 2
@@ -55,7 +51,7 @@ memoryOf input = drop (sizeAt input + 2 + codeLength input) input
 
 -- R10.3: the state that the steps begin with
 abbrev pub startOf : List ℕ → State
-startOf input = load (take (sizeAt input) input) blank .state
+startOf input = loadFront input .state
 
 -- every part is there and has its size
 unfoldable pub isLaidOut : List ℕ → Bool
@@ -67,7 +63,7 @@ isLaidOut input =
 
 -- R10.2: and the saved form loads
 unfoldable pub isGood : List ℕ → Bool
-isGood input = isLaidOut input && eqb (load (take (sizeAt input) input) blank .number) 0
+isGood input = isLaidOut input && eqb (loadFront input .number) 0
 
 -- R10.2: all that is printed
 unfoldable pub printed : List ℕ → List ℕ

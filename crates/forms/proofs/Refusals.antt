@@ -1,23 +1,20 @@
 -- The statements of specs/Refusals.antt: each number is `firstOf` of one list of conditions, each of which has a number that is not 0.
 -- Assumes nothing.
-use Prim.Native.Nat.{ℕ, suc, _<_}
+use Prim.Native.Nat.{ℕ, suc}
 use mathlib.Core.Path.{_≡_, refl}
 use mathlib.Core.Bool.{Bool, cond}
 use mathlib.Core.List.{List, [], _++_, append-nil}
 use mathlib.Core.Logic.{_≢_, inl, inr}
 use native.Mathlib.Omega.{arith}
 use borrow.Author.Tests.{ne-eqb}
-use lib.ListN.{length, take}
-use lib.Seq.{take-all}
-use Rattle.lists.specs.Lists.{firstOf, table}
+use Rattle.lists.specs.Lists.{firstOf}
 use Rattle.lists.proofs.First.{NonZero}
-use Rattle.lists.proofs.Tests.{either, differ}
+use Rattle.lists.proofs.Tests.{either}
 use Rattle.machine.specs.State.{State}
-use Rattle.machine.specs.Step.{wrongVectorFile}
 use Rattle.machine.proofs.First.{in-order}
 use Rattle.forms.specs.Version.{noVersion}
 use Rattle.forms.specs.Saved.{saveConditions, save, versionNumber, wrongSize, wrongLength, sourceConditions, loadConditions, load}
-use Rattle.forms.specs.Saved.{moveConditions, move, sizeAt, blank, loadFront}
+use Rattle.forms.specs.Saved.{moveConditions, move}
 use Rattle.forms.specs.Refusals.{SaveRefusals, LoadRefusals, MoveRefusals, NoForm, FormsFirst}
 
 abbrev no : {n : ℕ} → suc n ≢ 0
@@ -77,11 +74,3 @@ forms-first bytes h = (
   λ s file. rw file (rw (append-nil (sourceConditions bytes)) at (ten bytes [] h)),
   λ n target. pick 10 (noVersion n) (ten bytes _ h),
 )
-
--- ---- R9.13: a form of which bytes are missing does not load
-
-pub front-cut : (bytes : List ℕ) → length bytes < sizeAt bytes → loadFront bytes .number ≡ 10
-unfolding loadFront blank wrongVectorFile wrongLength table
-front-cut bytes h =
-    let all : take (sizeAt bytes) bytes ≡ bytes = take-all (sizeAt bytes) bytes (omega arith) in
-    rw all (forms-first bytes (inr (inr (inl (differ (sizeAt bytes) (length bytes) (λ e. omega arith))))) .0 blank refl)

@@ -15,7 +15,7 @@ use lib.Seq.{drop-drop}
 use Rattle.lists.specs.Lists.{firstOf}
 use Rattle.machine.specs.State.{State, Stepped}
 use Rattle.forms.specs.Saved.{sizeAt, loadFront}
-use Rattle.forms.proofs.Refusals.{front-cut}
+use Rattle.forms.proofs.Front.{front-cut}
 use Rattle.recording.specs.Item.{itemSize, isBad}
 use Rattle.recording.specs.Replay.{differs, replayFrom, itemsIn, replay}
 use Rattle.recording.specs.Reports.{WellFormed, Agrees, Loads, placeOf, from, stateBefore, steppedAt, Agree, Says, Reports}

@@ -3,3 +3,4 @@ pub mod Showing
 pub mod Comparing
 pub mod Playing
 pub mod Going
+pub mod Loading

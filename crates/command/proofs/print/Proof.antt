@@ -6,7 +6,8 @@ use borrow.Author.Tests.{not-true, not-false}
 use borrow.Author.Needs.{needs}
 use lib.ListN.{length-take, length-drop}
 use Rattle.lists.specs.Lists.{table}
-use Rattle.command.specs.Command.{badInput, blank, isLaidOut}
+use Rattle.forms.specs.Saved.{blank}
+use Rattle.command.specs.Command.{badInput, isLaidOut}
 use Rattle.command.proofs.Input.{LaidOut, laid-out, bad-layout, bad-load, good-lines}
 use Rattle.command.proofs.print.Statement.{statement}
 use Rattle.command.proofs.print.Tie as tie

@@ -1,7 +1,7 @@
 -- `command::put_step` meets its contract: what `step` and `put_step_line` promise, with the code lent from the offset to its end.
 -- Assumes nothing.
 use borrow.Author.Needs.{needs}
-use Rattle.command.proofs.Going.{to-end}
+use Rattle.forms.proofs.Slices.{to-end}
 use Rattle.command.proofs.put_step.Statement.{statement}
 use Rattle.command.proofs.put_step.Tie as tie
 
