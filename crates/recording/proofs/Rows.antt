@@ -58,6 +58,7 @@ replay-rows =
     record {
       none = λ v. elim v [ One ↦ refl | Two ↦ refl ];
       four = λ v. elim v [ One ↦ refl | Two ↦ refl ];
+      seven = refl;
       other = refl;
       version = refl;
       rest = refl;

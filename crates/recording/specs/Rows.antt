@@ -52,12 +52,17 @@ refuses = head 74 1 4 1 ++ (0x90 ∷ 0 ∷ 0 ∷ []) ++ control ++ zeros 64
 abbrev loads : List ℕ
 loads = head 81 1 0 6 ++ (0x62 ∷ 0xF5 ∷ 0x7E ∷ 0x08 ∷ 0x58 ∷ 0x00 ∷ 0 ∷ 2 ∷ 0 ∷ 0x3C ∷ []) ++ control ++ (0 ∷ 0x42 ∷ zeros 62)
 
+-- the same without memory: 7, and the destination as before
+abbrev outside : List ℕ
+outside = head 79 1 7 6 ++ (0x62 ∷ 0xF5 ∷ 0x7E ∷ 0x08 ∷ 0x58 ∷ 0x00 ∷ 0 ∷ 0 ∷ []) ++ control ++ (0 ∷ 0x40 ∷ zeros 62)
+
 abbrev recording : Version → List ℕ → List ℕ
 recording v items = savedForm v start ++ items
 
 pub record ReplayRows : Type 0 where
   pub none : (v : Version) → replay (recording v []) ≡ Same 0
   pub four : (v : Version) → replay (recording v (adds 1 ++ compares 1 ++ refuses ++ loads)) ≡ Same 4
+  pub seven : replay (recording Two (adds 1 ++ outside)) ≡ Same 2
   -- a mask that is not ours
   pub other : replay (recording Two (adds 1 ++ compares 0 ++ refuses)) ≡ Differs 1
   -- another version of an item; bytes behind the last item

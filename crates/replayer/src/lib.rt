@@ -1,19 +1,22 @@
-// The replay of a recording that is lent whole (R14.1 to R14.7).
+// The replay of a recording that is lent whole (R14.1 to R14.7), and its report as numbers (R14.9).
 ghost use mathlib.Core.Path.{_≡_};
 ghost use Prim.Native.Nat.{_+_, _≤_};
 ghost use lib.ListN.{length};
 ghost use Rattle.machine.specs.State.{stateOf};
 ghost use Rattle.recording.specs.Item.{codeCount, memoryCount};
 ghost use Rattle.recording.specs.Replay.{stepOf, differs, replayFrom, replay};
+ghost use Rattle.recording.specs.Report.{reported};
 use destination::are_other;
 use destination::shown_bytes;
 use item::Found;
 use item::find;
 use item::wide;
 use recording::Report;
+use recording::Reported;
 
 mod destination;
 mod item;
+pub mod line;
 
 // R14.4, R14.6: the step of an item that is well formed, and whether it differs from what the item expects.
 fn differs(
@@ -142,4 +145,26 @@ pub fn replay(recording: &[u8]) -> Report
         &mut pointer,
         &recording[start..],
     )
+}
+
+// R14.9: the report as C is handed it.
+pub fn reported(recording: &[u8]) -> Reported
+    ensures { λ r. ⌜ r ≡ reported (replay (now (recording .entry))) ⌝ }
+{
+    let report = replay(recording);
+    match report {
+        Report::Same(n) => Reported {
+            report: 0,
+            item: n as u64,
+        },
+        Report::Differs(n) => Reported {
+            report: 1,
+            item: n as u64,
+        },
+        Report::BadItem(n) => Reported {
+            report: 2,
+            item: n as u64,
+        },
+        Report::BadState => Reported { report: 3, item: 0 },
+    }
 }

@@ -7,9 +7,12 @@ ghost use Rattle.half.specs.Comparison.{halfMinimum, halfMaximum, halfCompare};
 ghost use Rattle.machine.specs.Step.{step};
 ghost use Rattle.machine.specs.State.{stateOf, steppedOf};
 ghost use Rattle.forms.specs.Saved.{save, load, move, savedSize, movedSize};
+ghost use Rattle.recording.specs.Replay.{replay};
+ghost use Rattle.recording.specs.Report.{reported};
 use half::Mode;
 use machine::Answer;
 use numbers::Rounded;
+use recording::Reported;
 
 #[no_mangle]
 pub extern "C" fn ridgecrook_add(a: u16, b: u16, mode: u32, underflow_unmasked: u32) -> Rounded
@@ -177,4 +180,11 @@ pub extern "C" fn ridgecrook_moved_size(version: u32, source: &[u8]) -> usize
     ensures { λ r. ⌜ r ≡ movedSize version (now (source .entry)) ⌝ }
 {
     saved::moved_size(version, source)
+}
+
+#[no_mangle]
+pub extern "C" fn ridgecrook_replay(recording: &[u8]) -> Reported
+    ensures { λ r. ⌜ r ≡ reported (replay (now (recording .entry))) ⌝ }
+{
+    replayer::reported(recording)
 }

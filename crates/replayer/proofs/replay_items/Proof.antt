@@ -88,7 +88,7 @@ part-differs-end c = omega arith
 
 -- src/lib.rt:95:12
 differs-requires : tie.Need-differs-requires Inv-loop μ-loop
-differs-requires c κs = 
+differs-requires c κs =
     let I = found-here (c .before .before .before .before .before .before) in (
       c .before .before .before .before .before .before .before .before .before .before .before .loop .inv .file,
       I .codes,
@@ -104,7 +104,7 @@ same-length-2 c = c .before .before .before .differs .kept .0 ∙ c .before .bef
 
 -- src/lib.rt:105:13
 returns-2 : tie.Need-returns-2 Inv-loop μ-loop
-returns-2 c = 
+returns-2 c =
     other (c .before .before .before .before .before .before .before .before .before .before .before .before .before .before .before .loop .inv) (c .before .before .before .before .before .before .before .before .before .before .before .before .before .before .loop-test .taken) (to-end (c .before .before .before .before .before .before .before .before .before .before .before .before .before .before .before .loop .at) (c .before .before .before .before .before .before .before .before .before .before .before .before .before .before .before .before .before .before .args .items .now)) (found-here (c .before .before .before .before .before .before .before .before .before .before) .bad)
     (sym (c .before .before .before .differs .ensures .1) ∙ c .if1 .taken)
 
@@ -130,7 +130,7 @@ loop-less c = omega (arith, inside (c .before .before .before .before .before .b
 
 -- src/lib.rt:90:5
 loop-again : tie.Need-loop-again Inv-loop μ-loop
-loop-again c = 
+loop-again c =
     let I = found-here (c .before .before .before .before .before .before .before .before .before .before) in
     goes (c .before .before .before .before .before .before .before .before .before .before .before .before .before .before .before .loop .inv) (c .before .before .before .before .before .before .before .before .before .before .before .before .before .before .loop-test .taken) (to-end (c .before .before .before .before .before .before .before .before .before .before .before .before .before .before .before .loop .at) (c .before .before .before .before .before .before .before .before .before .before .before .before .before .before .before .before .before .before .args .items .now)) (I .bad)
     (sym (c .before .before .before .differs .ensures .1) ∙ c .if1 .left) (I .form .whole) (c .before .before .before .differs .ensures .0) (c .before .before .before .differs .kept .0 ∙ c .before .before .before .before .before .before .before .before .before .before .before .before .before .before .before .loop .inv .file)
