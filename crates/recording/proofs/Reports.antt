@@ -18,7 +18,7 @@ use Rattle.forms.specs.Saved.{sizeAt, loadFront}
 use Rattle.forms.proofs.Front.{front-cut}
 use Rattle.recording.specs.Item.{itemSize, isBad}
 use Rattle.recording.specs.Replay.{differs, replayFrom, itemsIn, replay}
-use Rattle.recording.specs.Reports.{WellFormed, Agrees, Loads, placeOf, from, stateBefore, steppedAt, Agree, Says, Reports}
+use Rattle.recording.specs.Reports.{WellFormed, Agrees, Loads, itemAt, from, stateBefore, steppedAt, GoodBefore, Says, Reports}
 use Rattle.recording.specs.declared.Report.{Report}
 use Rattle.recording.specs.declared.Report.the-variants.{Same, Differs, BadItem, BadState}
 use Rattle.recording.proofs.Tests.{well-formed, not-bad, agree, not-differs}
@@ -43,23 +43,23 @@ module _ (r : List ℕ) where
       ]
 
   record Placed (n : ℕ) : Type 0 where
-    least : sizeAt r + n ≤ placeOf r n
-    most : placeOf r n ≤ length r
+    least : sizeAt r + n ≤ itemAt r n
+    most : itemAt r n ≤ length r
 
-  placed : Loads r → (n : ℕ) → Agree r n → Placed n
-  unfolding placeOf
+  placed : Loads r → (n : ℕ) → GoodBefore r n → Placed n
+  unfolding itemAt
   placed l zero a = record { least = omega arith; most = whole l }
   placed l (suc n) a =
       let p : Placed n = placed l n (λ k h. a k (omega arith)) in
       let w : itemSize (from r n) ≤ length (from r n) = a n (omega arith) .0 .whole in
-      record { least = omega (arith, p .least); most = omega (arith, p .most, w, length-drop (placeOf r n) r) }
+      record { least = omega (arith, p .least); most = omega (arith, p .most, w, length-drop (itemAt r n) r) }
 
   -- an item that is well formed has bytes
-  inside : (n : ℕ) → WellFormed (from r n) → placeOf r n < length r
-  inside n w = omega (arith, w .whole, length-drop (placeOf r n) r)
+  inside : (n : ℕ) → WellFormed (from r n) → itemAt r n < length r
+  inside n w = omega (arith, w .whole, length-drop (itemAt r n) r)
 
-  left : (n : ℕ) → placeOf r n < length r → eqb (length (from r n)) 0 ≡ false
-  left n h = ne-eqb (length (from r n)) 0 (λ e. omega (arith, e, length-drop (placeOf r n) r))
+  left : (n : ℕ) → itemAt r n < length r → eqb (length (from r n)) 0 ≡ false
+  left n h = ne-eqb (length (from r n)) 0 (λ e. omega (arith, e, length-drop (itemAt r n) r))
 
   -- ---- one item, and any number of them
 
@@ -67,17 +67,17 @@ module _ (r : List ℕ) where
   at m n = replayFrom m (stateBefore r n) (from r n) n
 
   turn : (m n : ℕ) → WellFormed (from r n) → Agrees (steppedAt r n) (from r n) → at (suc m) n ≡ at m (suc n)
-  unfolding replayFrom placeOf stateBefore
+  unfolding replayFrom itemAt stateBefore
   turn m n w a =
       rw (
         left n (inside n w),
         not-bad (from r n) w,
         not-differs (from r n) (steppedAt r n) a,
-        drop-drop (itemSize (from r n)) (placeOf r n) r,
+        drop-drop (itemSize (from r n)) (itemAt r n) r,
         add-one n,
       )
 
-  reached : (n m : ℕ) → Agree r n → at (n + m) 0 ≡ at m n
+  reached : (n m : ℕ) → GoodBefore r n → at (n + m) 0 ≡ at m n
   reached zero m a = rw (zero-add m)
   reached (suc n) m a =
       let e : suc n + m ≡ n + suc m = omega arith in
@@ -85,12 +85,12 @@ module _ (r : List ℕ) where
 
   -- ---- the report is given where it is true
 
-  replayed : Loads r → (n : ℕ) → Agree r n → (m : ℕ) → n + m ≡ length (itemsIn r) → replay r ≡ at m n
-  unfolding replay placeOf stateBefore
+  replayed : Loads r → (n : ℕ) → GoodBefore r n → (m : ℕ) → n + m ≡ length (itemsIn r) → replay r ≡ at m n
+  unfolding replay itemAt stateBefore
   replayed l n a m e = rw (eq-eqb (loadFront r .number) 0 l, ← e) (reached n m a)
 
   -- while bytes are left, one more item can be looked at
-  more : Loads r → (n : ℕ) → Agree r n → placeOf r n < length r → replay r ≡ at (suc (length (itemsIn r) - suc n)) n
+  more : Loads r → (n : ℕ) → GoodBefore r n → itemAt r n < length r → replay r ≡ at (suc (length (itemsIn r) - suc n)) n
   more l n a h =
       let p : Placed n = placed l n a in
       replayed l n a (suc (length (itemsIn r) - suc n)) (omega (arith, p .least, length-drop (sizeAt r) r))
@@ -104,7 +104,7 @@ module _ (r : List ℕ) where
     where
       ended : (m : ℕ) → at m n ≡ Same n
       ended zero = refl
-      ended (suc m) = rw (eq-eqb (length (from r n)) 0 (omega (arith, s .2, length-drop (placeOf r n) r)))
+      ended (suc m) = rw (eq-eqb (length (from r n)) 0 (omega (arith, s .2, length-drop (itemAt r n) r)))
   given (BadItem n) s =
       more (s .0) n (s .1) (s .2) ∙ rw (left n (s .2), holds (isBad (from r n)) (λ e. s .3 (well-formed (from r n) e)))
   given (Differs n) s =
@@ -115,14 +115,14 @@ module _ (r : List ℕ) where
   -- ---- and true where it is given
 
   -- with item n, where those before it agree
-  one-more : (n : ℕ) → Agree r n → WellFormed (from r n) → Agrees (steppedAt r n) (from r n) → Agree r (suc n)
+  one-more : (n : ℕ) → GoodBefore r n → WellFormed (from r n) → Agrees (steppedAt r n) (from r n) → GoodBefore r (suc n)
   one-more n a w g k h =
       elim (decLt k n) [
         | yes y ↦ a k y
         | no y ↦ let e : n ≡ k = omega arith in subst (λ j. WellFormed (from r j) × Agrees (steppedAt r j) (from r j)) e (w, g)
       ]
 
-  true-from : Loads r → (m n : ℕ) → Agree r n → n + m ≡ length (itemsIn r) → Says r (at m n)
+  true-from : Loads r → (m n : ℕ) → GoodBefore r n → n + m ≡ length (itemsIn r) → Says r (at m n)
   unfolding replayFrom
   true-from l zero n a e = let p : Placed n = placed l n a in (l, a, omega (arith, p .least, p .most, length-drop (sizeAt r) r))
   true-from l (suc m) n a e =
@@ -133,15 +133,15 @@ module _ (r : List ℕ) where
           → (WellFormed (from r n) → Agrees (steppedAt r n) (from r n) → Says r (at (suc m) n)) → Says r (at (suc m) n)
       go true b d f g h later =
           let p : Placed n = placed l n a in
-          rw f (l, a, omega (arith, p .most, eqb-true (length (from r n)) 0 f, length-drop (placeOf r n) r))
+          rw f (l, a, omega (arith, p .most, eqb-true (length (from r n)) 0 f, length-drop (itemAt r n) r))
       go false true d f g h later =
-          rw (f, g) (l, a, omega (arith, eqb-false (length (from r n)) 0 f, length-drop (placeOf r n) r), refuted (not-bad (from r n)) g)
+          rw (f, g) (l, a, omega (arith, eqb-false (length (from r n)) 0 f, length-drop (itemAt r n) r), refuted (not-bad (from r n)) g)
       go false false true f g h later =
           rw (f, g, h) (l, a, well-formed (from r n) g, refuted (not-differs (from r n) (steppedAt r n)) h)
       go false false false f g h later = later (well-formed (from r n) g) (agree (from r n) (steppedAt r n) h)
 
   holds-true : Says r (replay r)
-  unfolding replay placeOf stateBefore
+  unfolding replay itemAt stateBefore
   holds-true = go (eqb (loadFront r .number) 0) refl
     where
       go : (t : Bool) → eqb (loadFront r .number) 0 ≡ t → Says r (cond t (at (length (itemsIn r)) 0) BadState)

@@ -32,12 +32,12 @@ module _ (recording : List ℕ) where
   Loads = loadFront recording .number ≡ 0
 
   -- R14.1: where item k begins, and the bytes from there on
-  unfoldable pub placeOf : ℕ → ℕ
-  placeOf zero = sizeAt recording
-  placeOf (suc k) = placeOf k + itemSize (drop (placeOf k) recording)
+  unfoldable pub itemAt : ℕ → ℕ
+  itemAt zero = sizeAt recording
+  itemAt (suc k) = itemAt k + itemSize (drop (itemAt k) recording)
 
   abbrev pub from : ℕ → List ℕ
-  from k = drop (placeOf k) recording
+  from k = drop (itemAt k) recording
 
   -- R14.4: the machine's state before item k, and what its step gives
   unfoldable pub stateBefore : ℕ → State
@@ -48,14 +48,14 @@ module _ (recording : List ℕ) where
   steppedAt k = stepOf (stateBefore k) (from k)
 
   -- R14.7: the first n items are well formed and agree
-  abbrev pub Agree : ℕ → Type 0
-  Agree n = (k : ℕ) → k < n → WellFormed (from k) × Agrees (steppedAt k) (from k)
+  abbrev pub GoodBefore : ℕ → Type 0
+  GoodBefore n = (k : ℕ) → k < n → WellFormed (from k) × Agrees (steppedAt k) (from k)
 
   -- R14.8: what each report says
   abbrev pub Says : Report → Type 0
-  Says (Same n) = Loads × Agree n × (placeOf n ≡ length recording)
-  Says (Differs n) = Loads × Agree n × WellFormed (from n) × ¬ Agrees (steppedAt n) (from n)
-  Says (BadItem n) = Loads × Agree n × (placeOf n < length recording) × ¬ WellFormed (from n)
+  Says (Same n) = Loads × GoodBefore n × (itemAt n ≡ length recording)
+  Says (Differs n) = Loads × GoodBefore n × WellFormed (from n) × ¬ Agrees (steppedAt n) (from n)
+  Says (BadItem n) = Loads × GoodBefore n × (itemAt n < length recording) × ¬ WellFormed (from n)
   Says BadState = ¬ Loads
 
 -- R14.8: of every recording.

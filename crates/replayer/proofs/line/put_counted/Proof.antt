@@ -24,9 +24,9 @@ same-length c = search needs
 -- src/line.rt:16:1
 returns : tie.Need-returns
 returns c = (
-      followed (omega arith) (c .before .before .before .before .before .before .put-text .ensures) (c .before .before .put-decimal .ensures),
-      omega (arith, decimal-most (c .before .before .before .before .before .before .before .before .before .before .args .n), c .before .before .before .before .before .before .put-text .ensures .place, c .before .before .put-decimal .ensures .place, c .before .before .before .before .before .before .before .before .before .before .pre),
-    )
+  followed (omega arith) (c .before .before .before .before .before .before .put-text .ensures) (c .before .before .put-decimal .ensures),
+  omega (arith, decimal-most (c .before .before .before .before .before .before .before .before .before .before .args .n), c .before .before .before .before .before .before .put-text .ensures .place, c .before .before .put-decimal .ensures .place, c .before .before .before .before .before .before .before .before .before .before .pre),
+)
 
 pub put-counted-spec : {M : Type 1} → statement M
 put-counted-spec = tie.close (tie.spec put-text-requires put-decimal-requires same-length returns)

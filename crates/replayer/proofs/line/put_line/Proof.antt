@@ -29,9 +29,9 @@ same-length c = search needs
 returns : tie.Need-returns
 unfolding replayLine
 returns c = (
-      followed (omega arith) (c .before .before .before .before .before .before .before .put-words .ensures .0) (c .before .before .put-text .ensures),
-      omega (arith, c .before .before .before .before .before .before .before .put-words .ensures .1, c .before .before .put-text .ensures .place),
-    )
+  followed (omega arith) (c .before .before .before .before .before .before .before .put-words .ensures .0) (c .before .before .put-text .ensures),
+  omega (arith, c .before .before .before .before .before .before .before .put-words .ensures .1, c .before .before .put-text .ensures .place),
+)
 
 pub put-line-spec : {M : Type 1} → statement M
 put-line-spec =
