@@ -109,7 +109,11 @@ module _ (r : List ℕ) where
       more (s .0) n (s .1) (s .2) ∙ rw (left n (s .2), holds (isBad (from r n)) (λ e. s .3 (well-formed (from r n) e)))
   given (Differs n) s =
       more (s .0) n (s .1) (inside n (s .2))
-      ∙ rw (left n (inside n (s .2)), not-bad (from r n) (s .2), holds (differs (steppedAt r n) (from r n)) (λ e. s .3 (agree (from r n) (steppedAt r n) e)))
+      ∙ rw (
+        left n (inside n (s .2)),
+        not-bad (from r n) (s .2),
+        holds (differs (steppedAt r n) (from r n)) (λ e. s .3 (agree (from r n) (steppedAt r n) e)),
+      )
   given BadState s = rw (ne-eqb (loadFront r .number) 0 s)
 
   -- ---- and true where it is given

@@ -1,5 +1,5 @@
--- docs/RULES.md, R12.8: a recording byte by byte, and what is reported of it and of others like it. The statement; its proof, by computation,
--- is in proofs/Rows.antt.
+-- docs/RULES.md, R12.8: a recording byte by byte, and what is reported of it and of others like it. The statement; its proof, by
+-- computation, is in proofs/Rows.antt.
 use Prim.Native.Nat.{ℕ, _+_}
 use mathlib.Core.List.{List, [], _∷_, _++_}
 use mathlib.Core.Path.{_≡_}

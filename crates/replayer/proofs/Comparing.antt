@@ -31,7 +31,8 @@ module _ (a b : List ℕ) (n : ℕ) (long : length a ≡ n) (like : length b ≡
     where
       go : (t s : Bool) → some (otherAt a b) (table n (λ k. k)) ≡ t → sameBytes a b ≡ s → t ≡ not s
       go true true e f =
-          absurd (true≢false (sym e ∙ subst (λ (l : List ℕ). some (otherAt a l) (table n (λ k. k)) ≡ false) (same-equal a b f) (sym (same-nowhere a n))))
+          absurd (true≢false (sym e
+          ∙ subst (λ (l : List ℕ). some (otherAt a l) (table n (λ k. k)) ≡ false) (same-equal a b f) (sym (same-nowhere a n))))
       go true false e f = refl
       go false true e f = refl
       go false false e f = absurd (true≢false (sym (subst (λ (l : List ℕ). sameBytes a l ≡ true) (alike e) (equal-same a)) ∙ f))

@@ -52,7 +52,8 @@ pub item : (bytes : List ℕ) {code memory : ℕ} → Item code memory ≡ found
 unfolding found
 item bytes {code} {memory} e = go (isBad bytes) refl e
   where
-    go : (t : Bool) → isBad bytes ≡ t → Item code memory ≡ cond t Bad (Item (codeCount bytes) (memoryCount bytes)) → IsItem bytes code memory
+    go : (t : Bool) → isBad bytes ≡ t → Item code memory ≡ cond t Bad (Item (codeCount bytes) (memoryCount bytes))
+        → IsItem bytes code memory
     go true f e = absurd (true≢false (ap isItem e))
     go false f e = record { bad = f; codes = ap codeOf e; memories = ap memoryOf e; form = well-formed bytes f }
 

@@ -24,7 +24,8 @@ module _ (s : State) (item : List ℕ) {code memory : ℕ} (c : code ≡ codeCou
   unfolding expectedControl
   control-lent = rw (part 4 (9 + code + memory) {end = 9 + code + memory + 4} item refl, c, m)
 
-  destination-lent : take (9 + code + memory + 4 + 64 - (9 + code + memory + 4)) (drop (9 + code + memory + 4) item) ≡ expectedDestination item
+  destination-lent : take (9 + code + memory + 4 + 64 - (9 + code + memory + 4)) (drop (9 + code + memory + 4) item)
+      ≡ expectedDestination item
   unfolding expectedDestination
   destination-lent = rw (part 64 (9 + code + memory + 4) {end = 9 + code + memory + 4 + 64} item refl, c, m)
 
