@@ -1,6 +1,5 @@
 //! What the benchmark times the library against, and the recordings that both replay.
 
-pub mod library_replay;
 pub mod plain;
 mod plain_compare;
 mod plain_double;

@@ -5,35 +5,7 @@
 use crate::plain_saved;
 use crate::plain_step::{self, Destination};
 use ridgecrook_tests::machine::{Machine, REGISTER_SIZE};
-
-/// What a replay reports, laid out as `ridgecrook_report` of the C interface.
-#[repr(C)]
-#[derive(Clone, Copy, Debug, PartialEq, Eq)]
-pub struct Report {
-    /// 0 same, 1 differs, 2 bad item, 3 bad state.
-    pub report: u64,
-    /// The number of items where all are the same, else the item, counted from 0.
-    pub item: u64,
-}
-
-impl Report {
-    pub const BAD_STATE: Report = Report { report: 3, item: 0 };
-
-    pub const fn same(items: u64) -> Report {
-        Report {
-            report: 0,
-            item: items,
-        }
-    }
-
-    pub const fn differs(item: u64) -> Report {
-        Report { report: 1, item }
-    }
-
-    pub const fn bad_item(item: u64) -> Report {
-        Report { report: 2, item }
-    }
-}
+use ridgecrook_tests::second::replay::Report;
 
 const LENGTH_FIELD: usize = 4;
 
@@ -47,20 +19,20 @@ const MOST_MEMORY: usize = 4096;
 pub fn replay(recording: &[u8]) -> Report {
     let mut machine = Machine::blank();
     let Some(mut rest) = load(recording, &mut machine) else {
-        return Report::BAD_STATE;
+        return Report::BadState;
     };
     let mut number = 0;
     while !rest.is_empty() {
         let Some((item, behind)) = Item::of(rest) else {
-            return Report::bad_item(number);
+            return Report::BadItem(number);
         };
         if !item.agrees(&mut machine) {
-            return Report::differs(number);
+            return Report::Differs(number);
         }
         rest = behind;
         number += 1;
     }
-    Report::same(number)
+    Report::Same(number)
 }
 
 /// The items behind the saved form, which ends where its length field says.

@@ -3,13 +3,13 @@
 
 use crate::steps::{from_memory, Lanes};
 use crate::LT_OS;
-use ridgecrook_bench::plain_replay::{self, Report};
-use ridgecrook_bench::{library_replay, recorder::Recorder};
+use ridgecrook_bench::{plain_replay, recorder::Recorder};
 use ridgecrook_tests::assemble::{Encoding, LANES_8};
-use ridgecrook_tests::library;
+use ridgecrook_tests::library::{self, Reported};
 use ridgecrook_tests::machine::{Machine, REGISTER_SIZE};
 use ridgecrook_tests::random::Random;
 use ridgecrook_tests::second::encoding::{comparing_rows, scalar_rows, Listed, LIST};
+use ridgecrook_tests::second::replay::Report;
 use std::hint::black_box;
 
 const ITEMS: usize = 1_000_000;
@@ -219,21 +219,22 @@ impl Recorded {
     }
 
     /// Nanoseconds an item.
-    fn replay(&self, replay: fn(&[u8]) -> Report) -> f64 {
-        let mut report = Report::BAD_STATE;
-        let elapsed = time_whole(|| report = replay(black_box(&self.recorder.recording)));
-        assert_eq!(report, Report::same(ITEMS as u64));
+    fn replay(&mut self, replay: fn(&mut [u8]) -> Reported) -> f64 {
+        let mut report = Reported::from(Report::BadState);
+        let recording = &mut self.recorder.recording;
+        let elapsed = time_whole(|| report = replay(black_box(recording)));
+        assert_eq!(report, Report::Same(ITEMS as u64).into());
         elapsed / ITEMS as f64
     }
 
     /// The least of each: a step, an item by the library, an item by the plain program.
-    fn least(&self) -> [f64; 3] {
+    fn least(&mut self) -> [f64; 3] {
         let mut least = [f64::MAX; 3];
         for _ in 0..ROUNDS {
             let passes = [
                 self.steps(),
-                self.replay(library_replay::replay),
-                self.replay(plain_replay::replay),
+                self.replay(library::replay),
+                self.replay(|recording| plain_replay::replay(recording).into()),
             ];
             for (least, pass) in least.iter_mut().zip(passes) {
                 *least = least.min(pass);
@@ -274,7 +275,7 @@ pub fn print_rows() {
     );
     let mut buffer = Vec::with_capacity(LARGEST);
     for kind in &KINDS {
-        let recorded = Recorded::of(kind, buffer);
+        let mut recorded = Recorded::of(kind, buffer);
         print(kind, recorded.least());
         buffer = recorded.recorder.recording;
     }

@@ -1,19 +1,21 @@
 //! The plain replay is worth timing only if it is right: recordings are made by the second program,
 //! and each report is held against the one that is meant and against the library's.
 
-use ridgecrook_bench::plain_replay::{self, Report};
-use ridgecrook_bench::{library_replay, recorder::Recorder};
+use ridgecrook_bench::{plain_replay, recorder::Recorder};
+use ridgecrook_tests::library::{self, Reported};
 use ridgecrook_tests::machine::{Answer, Machine, Step, VECTORS_SIZE};
 use ridgecrook_tests::random_step::Steps;
 use ridgecrook_tests::second;
 use ridgecrook_tests::second::encoding::decode;
+use ridgecrook_tests::second::replay::Report;
 use ridgecrook_tests::second::saved::{load, FILE_AT, VERSIONS};
 use std::collections::BTreeMap;
 
 /// What both programs report.
 fn report(recording: &[u8]) -> Report {
     let plain = plain_replay::replay(recording);
-    assert_eq!(plain, library_replay::replay(recording), "plain, library");
+    let library = library::replay(&mut recording.to_vec());
+    assert_eq!(Reported::from(plain), library, "plain, library");
     plain
 }
 
@@ -72,7 +74,7 @@ fn recordings_that_are_the_same() {
         let version = VERSIONS[turn % 2];
         let items = steps.random.within(0, 8);
         let recording = Recording::of(&mut steps, version, items, 2000);
-        assert_eq!(report(&recording.bytes), Report::same(recording.items()));
+        assert_eq!(report(&recording.bytes), Report::Same(recording.items()));
         for answer in recording.answers {
             *reached.entry(answer).or_insert(0) += 1;
         }
@@ -91,12 +93,12 @@ fn meant(item: &[u8], place: usize, number: u64) -> Option<Report> {
     let code_end = 7 + usize::from(item[6]);
     let memory_end = item.len() - 68;
     match place {
-        0..=4 => Some(Report::bad_item(number)),
-        5 => Some(Report::differs(number)),
+        0..=4 => Some(Report::BadItem(number)),
+        5 => Some(Report::Differs(number)),
         _ if place < code_end => None,
-        _ if place < code_end + 2 => Some(Report::bad_item(number)),
+        _ if place < code_end + 2 => Some(Report::BadItem(number)),
         _ if place < memory_end => None,
-        _ => Some(Report::differs(number)),
+        _ => Some(Report::Differs(number)),
     }
 }
 
@@ -115,7 +117,7 @@ fn every_bit_of_an_item() {
                 recording.bytes[at] ^= 1 << bit;
                 let as_meant = expected.is_none_or(|meant| meant == report);
                 assert!(as_meant, "bit {bit} at {}: {report:?}", at - start);
-                assert!(report.item >= number as u64 && report != Report::BAD_STATE);
+                assert!(report.item() >= number as u64 && report != Report::BadState);
             }
         }
     }
@@ -139,7 +141,7 @@ fn every_bit_of_a_state() {
         let mut recording = Recording::of(&mut steps, version, 3, 100);
         for (at, bit) in (0..recording.places[0]).flat_map(|at| (0..8).map(move |bit| (at, bit))) {
             recording.bytes[at] ^= 1 << bit;
-            let is_bad = report(&recording.bytes) == Report::BAD_STATE;
+            let is_bad = report(&recording.bytes) == Report::BadState;
             assert_eq!(is_bad, !loads(&recording.bytes), "bit {bit} at {at}");
             refused += u32::from(is_bad);
             recording.bytes[at] ^= 1 << bit;
@@ -157,9 +159,9 @@ fn cut_at_every_place() {
         for end in 0..=recording.bytes.len() {
             let whole = recording.places.partition_point(|&place| place <= end) as u64;
             let expected = match whole.checked_sub(1) {
-                None => Report::BAD_STATE,
-                Some(items) if recording.places.contains(&end) => Report::same(items),
-                Some(items) => Report::bad_item(items),
+                None => Report::BadState,
+                Some(items) if recording.places.contains(&end) => Report::Same(items),
+                Some(items) => Report::BadItem(items),
             };
             assert_eq!(report(&recording.bytes[..end]), expected, "up to {end}");
         }
@@ -172,7 +174,7 @@ fn bytes_left_behind() {
     let mut recording = Recording::of(&mut Steps::seeded(24), 2, 2, 100);
     for _ in 0..200 {
         recording.bytes.push(0);
-        assert_eq!(report(&recording.bytes), Report::bad_item(2));
+        assert_eq!(report(&recording.bytes), Report::BadItem(2));
     }
 }
 
@@ -184,9 +186,9 @@ fn counts_within_their_limits() {
         recorder.record(&[], &[]);
         recorder.record(&code[..code_count], &memory[..memory_count]);
         let expected = if code_count > 15 || memory_count > 4096 {
-            Report::bad_item(1)
+            Report::BadItem(1)
         } else {
-            Report::same(2)
+            Report::Same(2)
         };
         assert_eq!(report(&recorder.recording), expected);
     }
@@ -202,8 +204,8 @@ fn the_first_of_two() {
         bytes[recording.places[1] + first] ^= 0xFF;
         bytes[recording.places[2] + second] ^= 0xFF;
         let expected = match first == version {
-            true => Report::bad_item(1),
-            false => Report::differs(1),
+            true => Report::BadItem(1),
+            false => Report::Differs(1),
         };
         assert_eq!(report(&bytes), expected);
     }
@@ -216,7 +218,7 @@ fn a_present_register_that_is_zero() {
     machine.vectors[0] = 1;
     let mut recorder = Recorder::of(second_step, machine, 2, Vec::new());
     recorder.record(&[0x90], &[]);
-    assert_eq!(report(&recorder.recording), Report::same(1));
+    assert_eq!(report(&recorder.recording), Report::Same(1));
     recorder.recording[FILE_AT + 4] = 0;
-    assert_eq!(report(&recorder.recording), Report::BAD_STATE);
+    assert_eq!(report(&recorder.recording), Report::BadState);
 }
