@@ -471,8 +471,8 @@ typedef struct {
  *   RIDGECROOK_SAME       none of these: there are `item` items, up to the last byte, and all agree
  *
  * A recording may have any length and any number of items. It is only read, and not copied; the
- * state that the steps are made on is on the stack, with some 2.3 KB. Nothing that was lent is
- * written, whatever the report.
+ * state that the steps are made on is on the stack, of which a call takes some 4 KB. Nothing that
+ * was lent is written, whatever the report.
  *
  * The pointer (R8.4): `recording` is good for recording_length bytes, and may be null where that is
  * 0 (RIDGECROOK_BAD_STATE). It needs no alignment.
