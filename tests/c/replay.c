@@ -10,6 +10,7 @@
 #include "form.h" /* first, since it chooses what the system's headers declare */
 
 #include "check.h"
+#include "random.h"
 
 #include <inttypes.h>
 
@@ -394,20 +395,6 @@ static void check_many(size_t items) {
     all[size - item + 4] ^= 1;
     check(is(ridgecrook_replay(all, size), BAD_ITEM, items - 1), "the last is bad");
     free(all);
-}
-
-static uint64_t state;
-
-/* The generator splitmix64 (Steele, Lea, Flood). */
-static uint64_t bits(void) {
-    uint64_t z = state += UINT64_C(0x9E3779B97F4A7C15);
-    z = (z ^ z >> 30) * UINT64_C(0xBF58476D1CE4E5B9);
-    z = (z ^ z >> 27) * UINT64_C(0x94D049BB133111EB);
-    return z ^ z >> 31;
-}
-
-static size_t below(size_t count) {
-    return (size_t)(bits() % count);
 }
 
 /* Changes bits, writes other bytes, or cuts; more often near the beginning of an item. */

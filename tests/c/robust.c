@@ -11,24 +11,11 @@
 #include "form.h" /* first, since it chooses what the system's headers declare */
 
 #include "check.h"
+#include "random.h"
 
 #include <inttypes.h>
 
 enum { CODE_MOST = 24, MEMORY_MOST = 2 * PAGE };
-
-static uint64_t state;
-
-/* The generator splitmix64 (Steele, Lea, Flood). */
-static uint64_t bits(void) {
-    uint64_t z = state += UINT64_C(0x9E3779B97F4A7C15);
-    z = (z ^ z >> 30) * UINT64_C(0xBF58476D1CE4E5B9);
-    z = (z ^ z >> 27) * UINT64_C(0x94D049BB133111EB);
-    return z ^ z >> 31;
-}
-
-static size_t below(size_t count) {
-    return (size_t)(bits() % count);
-}
 
 static void fill(void *at, size_t size) {
     uint8_t *bytes = at;
