@@ -407,51 +407,62 @@ uint32_t ridgecrook_move(uint32_t version, const uint8_t *source, size_t source_
  *           0      4  the length: the number of bytes that follow these four, 73 + c + m
  *           4      1  the version, 1
  *           5      1  the answer that the step is to give
- *           6      1  c, at most 15
+ *           6      1  c, at most 15; of longer code the first 15 bytes are enough
  *           7      c  the code
  *       7 + c      2  m, at most 4,096
- *       9 + c      m  the memory
+ *       9 + c      m  the memory, at the addresses 0 to m - 1
  *   9 + c + m      4  the control word that is to stand after the step
- *  13 + c + m     64  the destination that is to stand after it (R14.5):
- *                     with the answers 0, 7 and 8 what the instruction's destination holds, a
- *                     vector register as a step takes it, or a mask in the first 8 bytes and
- *                     zeros behind; with every other answer zeros
+ *  13 + c + m     64  the destination that is to stand after it (R14.5): where our step answers 0,
+ *                     7 or 8 all 64 bytes of the vector register that the instruction names, as a
+ *                     step takes it, or a mask, its highest byte first, and 56 zeros; where it
+ *                     answers anything else 64 zeros
  *
- * With 7 and 8 a step leaves its destination as it was, so that is what stands here. An item has 77
- * to 4,188 bytes.
+ * With 7 and 8 a step leaves its destination as it was, so that is what stands here. The number of
+ * the destination (R3.6): bits 3 to 5 of byte 5 of the code, 8 more where bit 7 of byte 1 is 0, 16
+ * more where bit 4 of byte 1 is 0. Of VCMPPH it is a mask's number, of every other a register's.
  *
- * An item is well formed (R14.3) if all its bytes are there, its length is the number of those
- * behind it, its version is 1, and c and m are not above their limits. Bytes behind the last whole
- * item are an item that is not well formed.
+ * An item is well formed (R14.3) if all its bytes are there, its length is 73 + c + m, its version
+ * is 1, and c and m are not above their limits. Bytes behind the last whole item are an item that
+ * is not well formed.
  *
- * A recording of one step, vaddph zmm0, zmm1, zmm2, from a state whose saved form stands in
- * `recording` already, `size` bytes of it:
+ * No item sets registers. General registers stay as they were saved, and the pointer moves with
+ * answer 0 alone: where other code wrote registers between two steps, a new recording begins.
  *
- *     static const uint8_t step[] = {0, 0, 0, 79, 1, RIDGECROOK_DONE,
- *                                    6, 0x62, 0xF5, 0x74, 0x48, 0x58, 0xC2, 0, 0};
- *     uint8_t *item = recording + size;
- *     memcpy(item, step, 15);
- *     for (int i = 0; i < 4; i++) {
- *         item[15 + i] = (uint8_t)(control >> (24 - 8 * i));
+ *     // writes an item of RIDGECROOK_ITEM_SIZE(c, m) bytes
+ *     void put_item(uint8_t *item, uint8_t answer, const uint8_t *code, size_t c,
+ *                   const uint8_t *memory, size_t m, uint32_t control,
+ *                   const uint8_t destination[RIDGECROOK_REGISTER_SIZE]) {
+ *         size_t length = RIDGECROOK_ITEM_SIZE(c, m) - 4, at = 9 + c + m;
+ *         for (int i = 0; i < 4; i++) {
+ *             item[i] = (uint8_t)(length >> (24 - 8 * i));
+ *             item[at + (size_t)i] = (uint8_t)(control >> (24 - 8 * i));
+ *         }
+ *         item[4] = RIDGECROOK_ITEM_VERSION;
+ *         item[5] = answer;
+ *         item[6] = (uint8_t)c;
+ *         memcpy(item + 7, code, c);
+ *         item[7 + c] = (uint8_t)(m >> 8);
+ *         item[8 + c] = (uint8_t)m;
+ *         memcpy(item + 9 + c, memory, m);
+ *         memcpy(item + at + 4, destination, RIDGECROOK_REGISTER_SIZE);
  *     }
- *     memcpy(item + 19, vectors, RIDGECROOK_REGISTER_SIZE);
- *     ridgecrook_report r = ridgecrook_replay(recording, size + 83);
- *
- * Here `control` and `vectors` are those after the step. If they are ours, r.report is
- * RIDGECROOK_SAME and r.item is 1.
  */
+#define RIDGECROOK_ITEM_VERSION 1
+#define RIDGECROOK_ITEM_CODE 15     /* the most bytes of code in an item */
+#define RIDGECROOK_ITEM_MEMORY 4096 /* and of memory */
+#define RIDGECROOK_ITEM_SIZE(c, m) (77 + (size_t)(c) + (size_t)(m))
 
 /* The reports of a replay (R14.7); they are no answers, and have numbers of their own. */
-#define RIDGECROOK_SAME 0      /* every item is well formed and agrees */
-#define RIDGECROOK_DIFFERS 1   /* an item is well formed and does not agree */
-#define RIDGECROOK_BAD_ITEM 2  /* an item is not well formed */
-#define RIDGECROOK_BAD_STATE 3 /* what stands in front does not load */
+#define RIDGECROOK_REPORT_SAME 0      /* every item is well formed and agrees */
+#define RIDGECROOK_REPORT_DIFFERS 1   /* an item is well formed and does not agree */
+#define RIDGECROOK_REPORT_BAD_ITEM 2  /* an item is not well formed */
+#define RIDGECROOK_REPORT_BAD_STATE 3 /* what stands in front does not load */
 
 /* What a replay hands back: 16 bytes, without padding. */
 typedef struct {
-    uint64_t report; /* RIDGECROOK_SAME to RIDGECROOK_BAD_STATE */
-    uint64_t item;   /* with RIDGECROOK_DIFFERS and RIDGECROOK_BAD_ITEM the item, counted from 0;
-                        with RIDGECROOK_SAME how many there are; with RIDGECROOK_BAD_STATE 0 */
+    uint64_t report; /* RIDGECROOK_REPORT_SAME to RIDGECROOK_REPORT_BAD_STATE */
+    uint64_t item;   /* of one that differs or is bad its number, counted from 0; where all are the
+                        same how many there are; where the state is bad 0 */
 } ridgecrook_report;
 
 /*
@@ -460,22 +471,27 @@ typedef struct {
  * state that the one before has left, whatever its answer was, and never from what an item expects.
  *
  * An item agrees if the step's answer, the control word after it and the destination are the item's
- * (R14.6). A number that no step answers does not agree; it makes no item ill formed. The replay
- * ends at the first item that is not well formed, which is asked first, or does not agree: all
- * items before it are well formed and agree, and none behind it is looked at. The report is
+ * (R14.6). A number that no step answers does not agree, nor does a control word above 0xFFFF;
+ * neither makes an item ill formed. Of each item it is asked first whether it is well formed, then
+ * whether it agrees. The replay ends with the first no, and nothing behind that item is looked at.
+ * The report is
  *
- *   RIDGECROOK_BAD_STATE  the bytes up to the end that the first length field names are not all
- *                         there, are not a saved form, or have a control word above 0xFFFF
- *   RIDGECROOK_BAD_ITEM   item `item` is not well formed
- *   RIDGECROOK_DIFFERS    item `item` is well formed and does not agree
- *   RIDGECROOK_SAME       none of these: there are `item` items, up to the last byte, and all agree
+ *   .._BAD_STATE  the recording is shorter than its first length field says, the bytes in front are
+ *                 not a saved form, or have a control word above 0xFFFF
+ *   .._BAD_ITEM   item `item` is not well formed, all before it are and agree
+ *   .._DIFFERS    item `item` is well formed and does not agree, all before it do
+ *   .._SAME       none of these: there are `item` items, up to the last byte, and all agree
+ *
+ * What no step's answer, control word or destination depends on is not seen: pointer, length and
+ * other registers are in no item, and a recording has no checksum. To see what differs, load the
+ * saved form and make the steps up to that item by ridgecrook_step.
  *
  * A recording may have any length and any number of items. It is only read, and not copied; the
  * state that the steps are made on is on the stack, of which a call takes some 4 KB. Nothing that
  * was lent is written, whatever the report.
  *
  * The pointer (R8.4): `recording` is good for recording_length bytes, and may be null where that is
- * 0 (RIDGECROOK_BAD_STATE). It needs no alignment.
+ * 0 (RIDGECROOK_REPORT_BAD_STATE). It needs no alignment.
  */
 ridgecrook_report ridgecrook_replay(const uint8_t *recording, size_t recording_length);
 

@@ -156,12 +156,12 @@ static void replaying(void) {
     item[4] = 1;
     item[5] = RIDGECROOK_CUT_SHORT;
     memcpy(item + 9, recording + 5, 4); /* the control word, as it was saved */
-    check(reports(recording, sizeof recording, RIDGECROOK_SAME, 1), "a recording of one item");
-    check(reports(recording, sizeof saved, RIDGECROOK_SAME, 0), "and of none");
+    check(reports(recording, sizeof recording, RIDGECROOK_REPORT_SAME, 1), "a recording of one item");
+    check(reports(recording, sizeof saved, RIDGECROOK_REPORT_SAME, 0), "and of none");
     item[5] = RIDGECROOK_DONE;
-    check(reports(recording, sizeof recording, RIDGECROOK_DIFFERS, 0), "another answer");
-    check(reports(recording, sizeof recording - 1, RIDGECROOK_BAD_ITEM, 0), "an item that is cut");
-    check(reports(NULL, 0, RIDGECROOK_BAD_STATE, 0), "no recording");
+    check(reports(recording, sizeof recording, RIDGECROOK_REPORT_DIFFERS, 0), "another answer");
+    check(reports(recording, sizeof recording - 1, RIDGECROOK_REPORT_BAD_ITEM, 0), "an item that is cut");
+    check(reports(NULL, 0, RIDGECROOK_REPORT_BAD_STATE, 0), "no recording");
 }
 
 int main(void) {
