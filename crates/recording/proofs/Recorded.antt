@@ -2,14 +2,11 @@
 -- the replay goes on behind each item.
 -- Assumes nothing.
 use Prim.Native.Nat.{ℕ, zero, suc, _+_, _^_, _≤_, _<_}
-use mathlib.Core.Bool.{false}
 use mathlib.Core.List.{List, [], _∷_, _++_, append-assoc}
 use mathlib.Core.Path.{_≡_, refl, sym, ap, _∙_}
-use native.Mathlib.Nat.{add-assoc}
 use native.Mathlib.Omega.{arith}
-use borrow.Author.Tests.{leb-false, eq-eqb, ne-eqb}
+use borrow.Author.Tests.{leb-false, ne-eqb}
 use lib.Bits.{or-lt}
-use lib.Dec.{eqb}
 use lib.ListN.{length, getD, take, drop, length-append, length-drop}
 use lib.Seq.{take-at, drop-at, drop-drop, length-paste}
 use Rattle.lists.proofs.Tests.{either, equal}
@@ -26,7 +23,7 @@ use Rattle.evex.proofs.Bounds.{DestinationIn, bounds}
 use Rattle.machine.specs.State.{State, Stepped, registerAt}
 use Rattle.machine.specs.Lanes as lanes
 use Rattle.machine.specs.Lanes.{gathered, controlAfter, results, fill, newRegister, vectorsWith, vectorsAfter}
-use Rattle.machine.specs.Step.{ofFields, wrongVectorFile, highControlBit, refused, stopped, completed, step}
+use Rattle.machine.specs.Step.{ofFields, wrongVectorFile, highControlBit, stopped, completed, step}
 use Rattle.machine.proofs.Ends.{of-step}
 use Rattle.machine.proofs.Flags.{added-below}
 use Rattle.machine.proofs.TwoRuns.{new-length}
@@ -34,13 +31,14 @@ use Rattle.forms.specs.declared.Version.{Version}
 use Rattle.forms.specs.Numbers.{big, valueFrom}
 use Rattle.forms.specs.File.{zeros}
 use Rattle.forms.specs.Form.{savedForm}
-use Rattle.forms.specs.Saved.{sizeAt, Load, loadFront}
+use Rattle.forms.specs.Saved.{sizeAt}
 use Rattle.forms.proofs.Numbers.{length-big, value-big}
 use Rattle.forms.proofs.Slices.{length-part}
 use Rattle.forms.proofs.Sizes.{forms-in-front}
 use Rattle.forms.proofs.Front.{front-loads}
-use Rattle.recording.specs.Item.{itemVersion, expectedNumber, codeCount, codeIn, memoryCount, memoryIn, controlAt, expectedControl, expectedDestination, itemSize}
-use Rattle.recording.specs.Replay.{stepOf, held, hasDestination, shown, replayFrom, itemsIn, replay}
+use Rattle.recording.specs.Item.{itemVersion, expectedNumber, codeCount, codeIn, memoryCount, memoryIn, expectedControl}
+use Rattle.recording.specs.Item.{expectedDestination, itemSize}
+use Rattle.recording.specs.Replay.{held, hasDestination, shown, replayFrom, itemsIn, replay}
 use Rattle.recording.specs.Reports.{WellFormed, Agrees}
 use Rattle.recording.specs.Recorded.{itemOf, itemsOf, Short, Recorded}
 use Rattle.recording.specs.declared.Report.the-variants.{Same}
@@ -66,7 +64,7 @@ nested a b c d e f =
     ∙ append-assoc (a ++ b) c (d ++ (e ++ f))
     ∙ append-assoc a b (c ++ (d ++ (e ++ f)))
 
--- ---- what a step keeps, and an item needs
+-- ---- what an item needs of a state, and a step keeps
 
 record Right (s : State) : Type 0 where
   file : length (s .vectors) ≡ 2048
@@ -101,6 +99,7 @@ kept memory s code r =
       },
     ))
 
+-- a destination has its 64 bytes
 held-long : (vectors masks : List ℕ) (x : Destination) → length vectors ≡ 2048 → DestinationIn x → length (held vectors masks x) ≡ 64
 held-long vectors masks (Vector n) long h = length-part (registerAt n) 64 vectors (omega (arith, long))
 held-long vectors masks (Mask n) long h =
@@ -218,18 +217,23 @@ module _ (s : State) (r : Right s) (code memory rest : List ℕ) (short : length
         destination = rw code-read (sym destination-read);
       }
 
-  -- so the replay goes on behind it
-  turn : (m k : ℕ) → replayFrom (suc m) s bytes k ≡ replayFrom m (o .state) rest (k + 1)
+  -- so the replay goes on behind it, with enough turns for what is left
+  turn : (m k : ℕ) → length bytes ≤ m
+      → (n : ℕ) × (length rest ≤ n) × (replayFrom m s bytes k ≡ replayFrom n (o .state) rest (k + 1))
   unfolding replayFrom
-  turn m k =
-      rw (
-        ne-eqb (length bytes) 0 (λ z. omega (arith, z, total)),
-        not-bad bytes good,
-        code-read,
-        memory-read,
-        not-differs bytes o agrees,
-        rest-behind,
-      )
+  turn zero k h = absurd (omega (arith, h, total))
+  turn (suc m) k h = (
+    m,
+    omega (arith, h, total),
+    rw (
+      ne-eqb (length bytes) 0 (λ z. omega (arith, z, total)),
+      not-bad bytes good,
+      code-read,
+      memory-read,
+      not-differs bytes o agrees,
+      rest-behind,
+    ),
+  )
 
 -- ---- all items
 
@@ -238,13 +242,10 @@ goes : (steps : List (List ℕ × List ℕ)) (s : State) → Right s → Short s
 unfolding replayFrom itemsOf
 goes [] s r h zero k e = ap Same (omega arith)
 goes [] s r h (suc m) k e = ap Same (omega arith)
-goes (x ∷ steps) s r h zero k e = absurd (omega (arith, e, total s r (x .0) (x .1) (itemsOf (step (x .1) s (x .0) .state) steps) (h .0) (h .1)))
-goes (x ∷ steps) s r h (suc m) k e =
+goes (x ∷ steps) s r h m k e =
     let next : State = step (x .1) s (x .0) .state in
-    turn s r (x .0) (x .1) (itemsOf next steps) (h .0) (h .1) m k
-    ∙ goes steps next (kept (x .1) s (x .0) r) (h .2) m (k + 1)
-    (omega (arith, e, total s r (x .0) (x .1) (itemsOf next steps) (h .0) (h .1)))
-    ∙ ap Same (omega arith)
+    let t = turn s r (x .0) (x .1) (itemsOf next steps) (h .0) (h .1) m k e in
+    t .2 ∙ goes steps next (kept (x .1) s (x .0) r) (h .2) (t .0) (k + 1) (t .1) ∙ ap Same (omega arith)
 
 pub recorded : Recorded
 unfolding replay wrongVectorFile highControlBit

@@ -13,9 +13,7 @@ use Rattle.forms.specs.Trips.{Held}
 use Rattle.recording.specs.Replay.{shown, replay}
 use Rattle.recording.specs.declared.Report.the-variants.{Same}
 
--- ---- R14.2, R14.4: items, written
-
--- the item of a step, by its code, its memory, and what it gave
+-- R14.2: the item of a step, by its code, its memory, and what it gave
 unfoldable pub itemOf : List ℕ → List ℕ → Stepped → List ℕ
 itemOf code memory o =
     big 4 (73 + length code + length memory)
