@@ -7,10 +7,10 @@ use mathlib.Core.Path.{_≡_, refl, sym, ap, _∙_}
 use native.Mathlib.Omega.{arith}
 use borrow.Author.Tests.{leb-false, ne-eqb}
 use lib.Bits.{or-lt}
-use lib.ListN.{length, getD, take, drop, length-append, length-drop}
+use lib.ListN.{length, take, drop, length-append, length-drop}
 use lib.Seq.{take-at, drop-at, drop-drop, length-paste}
+use Rattle.lists.specs.Lists.{table}
 use Rattle.lists.proofs.Tests.{either, equal}
-use Rattle.lists.proofs.Tables.{length-table}
 use Rattle.evex.specs.Decode.{decoded}
 use Rattle.evex.specs.declared.Destination.{Destination}
 use Rattle.evex.specs.declared.Destination.the-variants.{Vector, Mask}
@@ -101,18 +101,18 @@ kept memory s code r =
 
 -- a destination has its 64 bytes
 held-long : (vectors masks : List ℕ) (x : Destination) → length vectors ≡ 2048 → DestinationIn x → length (held vectors masks x) ≡ 64
+unfolding big table
 held-long vectors masks (Vector n) long h = length-part (registerAt n) 64 vectors (omega (arith, long))
-held-long vectors masks (Mask n) long h =
-    length-append (big 8 (getD masks n 0)) (zeros 56) ∙ omega (arith, length-big 8 (getD masks n 0), length-table 56 (λ k. zero))
+held-long vectors masks (Mask n) long h = refl
 
 shown-long : (code : List ℕ) (n : ℕ) (vectors masks : List ℕ) → length vectors ≡ 2048 → length (shown code n vectors masks) ≡ 64
-unfolding shown
+unfolding shown table
 shown-long code n vectors masks long =
-    either (λ (l : List ℕ). length l ≡ 64) (hasDestination n) (go (decoded code) refl) (length-table 64 (λ k. zero))
+    either (λ (l : List ℕ). length l ≡ 64) (hasDestination n) (go (decoded code) refl) refl
   where
     go : (d : Decoded) → decoded code ≡ d → length (ofFields d (zeros 64) (λ (i : Instruction). held vectors masks (i .destination))) ≡ 64
     go (Fields i) e = held-long vectors masks (i .destination) long (bounds code e .destination)
-    go (Refused r) e = length-table 64 (λ k. zero)
+    go (Refused r) e = refl
 
 -- ---- an item in front of others
 
