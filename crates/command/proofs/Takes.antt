@@ -8,18 +8,17 @@ use native.Mathlib.Omega.{arith}
 use borrow.Author.Tests.{le-leb}
 use lib.ListN.{length, take, drop, length-append}
 use lib.Seq.{take-at, drop-at, drop-drop}
-use Rattle.lists.proofs.Tests.{equal, same}
-use Rattle.lists.proofs.Tables.{length-table}
+use Rattle.lists.proofs.Tests.{equal}
 use Rattle.machine.specs.State.{State}
 use Rattle.machine.specs.Step.{wrongVectorFile, highControlBit}
 use Rattle.forms.specs.declared.Version.{Version}
 use Rattle.forms.specs.Numbers.{big}
 use Rattle.forms.specs.Form.{savedForm}
-use Rattle.forms.specs.Saved.{sizeAt, Load, load, blank, loadFront}
+use Rattle.forms.specs.Saved.{sizeAt, Load, loadFront}
 use Rattle.forms.specs.Trips.{Held}
 use Rattle.forms.proofs.Numbers.{length-big, value-big}
-use Rattle.forms.proofs.Trips.{load-saved}
 use Rattle.forms.proofs.Sizes.{forms-in-front}
+use Rattle.forms.proofs.Front.{front-loads}
 use Rattle.command.specs.Command.{codeLength, isLaidOut, isGood}
 use Rattle.command.specs.Runs.{Taken, Takes}
 use Rattle.command.proofs.Input.{by-memory}
@@ -69,15 +68,8 @@ module _ (v : Version) (s : State) (code memory : List ℕ) (S : Held s) (file :
       by-memory (form ++ rest) (sym size) (omega (arith, total)) (sym code-length) short (omega (arith, total))
       ∙ le-leb (length (form ++ rest) - (length form + 2 + length code)) 32768 (omega (arith, total, small))
 
-  blank-file : wrongVectorFile blank ≡ false
-  unfolding wrongVectorFile blank
-  blank-file = same (length (blank .vectors)) 2048 (length-table 2048 (λ k. 0))
-
   loads : loadFront (form ++ rest) ≡ record { number = 0; state = s }
-  unfolding loadFront
-  loads =
-      ap (λ (l : List ℕ). load l blank) (rw size (take-at form rest (length form) (omega arith)))
-      ∙ load-saved v s blank S file control blank-file
+  loads = front-loads v s rest S file control
 
   taken : Taken s code memory (form ++ rest)
   unfolding isGood

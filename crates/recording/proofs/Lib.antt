@@ -1,3 +1,4 @@
 pub mod Tests
 pub mod Reports
+pub mod Recorded
 pub mod Rows

@@ -3,4 +3,5 @@ pub mod Item
 pub mod Replay
 pub mod Report
 pub mod Reports
+pub mod Recorded
 pub mod Rows
