@@ -453,7 +453,7 @@ uint32_t ridgecrook_move(uint32_t version, const uint8_t *source, size_t source_
 #define RIDGECROOK_ITEM_SIZE(c, m) (77 + (size_t)(c) + (size_t)(m))
 
 /* The reports of a replay (R14.7); they are no answers, and have numbers of their own. */
-#define RIDGECROOK_REPORT_SAME 0      /* every item is well formed and agrees */
+#define RIDGECROOK_REPORT_SAME 0      /* no item is ill formed, and none differs */
 #define RIDGECROOK_REPORT_DIFFERS 1   /* an item is well formed and does not agree */
 #define RIDGECROOK_REPORT_BAD_ITEM 2  /* an item is not well formed */
 #define RIDGECROOK_REPORT_BAD_STATE 3 /* what stands in front does not load */

@@ -4,7 +4,6 @@ use mathlib.Core.Bool.{Bool, cond, _&&_}
 use mathlib.Core.List.{List, [], _∷_, _++_}
 use lib.Dec.{eqb, leb}
 use lib.ListN.{length, take, drop}
-use Rattle.lists.specs.Lists.{table}
 use Rattle.machine.specs.State.{State, Stepped}
 use Rattle.machine.specs.Step.{step}
 use Rattle.forms.specs.Numbers.{numberIn}

@@ -8,7 +8,7 @@ pub mod Places
 pub mod Apart
 pub mod Answered
 pub mod Refusals
-pub mod Front
 pub mod Trips
 pub mod Sizes
+pub mod Front
 pub mod Rows

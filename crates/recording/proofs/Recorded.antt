@@ -27,7 +27,6 @@ use Rattle.machine.specs.Step.{ofFields, wrongVectorFile, highControlBit, stopp
 use Rattle.machine.proofs.Ends.{of-step}
 use Rattle.machine.proofs.Flags.{added-below}
 use Rattle.machine.proofs.TwoRuns.{new-length}
-use Rattle.forms.specs.declared.Version.{Version}
 use Rattle.forms.specs.Numbers.{big, valueFrom}
 use Rattle.forms.specs.File.{zeros}
 use Rattle.forms.specs.Form.{savedForm}

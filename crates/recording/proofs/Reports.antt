@@ -1,19 +1,17 @@
 -- The statement of specs/Reports.antt: the replay goes through the items in order, so after n of them that agree it stands at item n.
 -- Assumes nothing.
 use Prim.Native.Nat.{ℕ, zero, suc, _+_, _-_, _≤_, _<_}
-use mathlib.Core.Path.{_≡_, refl, sym, ap, subst, _∙_}
+use mathlib.Core.Path.{_≡_, refl, sym, subst, _∙_}
 use mathlib.Core.Bool.{Bool, true, false, cond, true≢false}
-use mathlib.Core.List.{List, [], _∷_}
+use mathlib.Core.List.{List}
 use native.Mathlib.Decide.{decLt}
 use native.Mathlib.Nat.{zero-add}
 use native.Mathlib.Numerals.{add-one}
 use native.Mathlib.Omega.{arith}
 use borrow.Author.Tests.{eqb-true, eqb-false, eq-eqb, ne-eqb}
 use lib.Dec.{eqb}
-use lib.ListN.{length, drop, length-drop}
+use lib.ListN.{length, length-drop}
 use lib.Seq.{drop-drop}
-use Rattle.lists.specs.Lists.{firstOf}
-use Rattle.machine.specs.State.{State, Stepped}
 use Rattle.forms.specs.Saved.{sizeAt, loadFront}
 use Rattle.forms.proofs.Front.{front-cut}
 use Rattle.recording.specs.Item.{itemSize, isBad}

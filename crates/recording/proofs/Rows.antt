@@ -8,7 +8,7 @@ use Rattle.half.specs.Format.{units}
 use Rattle.half.specs.Exact.{against, whole, roundTo}
 use Rattle.half.specs.Round.{significant, encode, roundedHalf}
 use Rattle.half.specs.Modes.{modeOfBits}
-use Rattle.half.specs.Operations.{exactSum, halfAdd}
+use Rattle.half.specs.Operations.{exactSum, halfAdd, halfDivide}
 use Rattle.half.specs.Comparison.{relation, predicates, predicateOf, halfCompare}
 use Rattle.evex.specs.List.{rows}
 use Rattle.evex.specs.Fields.{takesSib, headOf, listed, registerForm, registerB, vectorLanes, hasSib, baseBits, indexOf, noBase, baseOf}
@@ -29,6 +29,7 @@ use Rattle.machine.specs.Step.{
   beforeSeven,
   conditions,
   answerOf,
+  stopped,
   completed,
   step,
 }
@@ -43,14 +44,14 @@ use Rattle.recording.specs.Replay.{shown, differs, replayFrom, replay}
 use Rattle.recording.specs.Rows.{ReplayRows}
 
 pub replay-rows : ReplayRows
-unfolding flatten table size units against whole roundTo modeOfBits significant encode roundedHalf exactSum halfAdd relation
+unfolding flatten table size units against whole roundTo modeOfBits significant encode roundedHalf exactSum halfAdd halfDivide relation
     predicates predicateOf halfCompare rows takesSib headOf listed registerForm registerB vectorLanes hasSib baseBits
     indexOf noBase baseOf displacementAt displacementSize second destinationOf first elements rounding fields.size
     displacementOf immediateOf instruction noBytes wrongFirstByte fewerThanSixBytes wrongFixedBits notInList
     reservedLength zeroingWithoutMask extraSource scalarBroadcast zeroingMask noSuchMask reservedForms bytesMissing
     headConditions rowConditions refusals decoded addressFrom located outside on needsOutside registerHalves memoryHalves
     gathered operated results raised raisesUnmasked controlAfter fill newRegister vectorsWith vectorsAfter masksAfter
-    wrongVectorFile highControlBit outsideMemory unmaskedException beforeSeven conditions answerOf completed step big
+    wrongVectorFile highControlBit outsideMemory unmaskedException beforeSeven conditions answerOf stopped completed step big
     valueFrom joined registers versionOf noVersion present presence pack sumTo unpack packedSize hasEmpty fileForm numbers
     content savedForm loadedState sizeAt wrongSize wrongLength wrongFile sourceConditions loadConditions load blank
     loadFront memoryCount expectedControl expectedDestination isBad shown differs replayFrom replay
@@ -59,6 +60,7 @@ replay-rows =
       none = λ v. elim v [ One ↦ refl | Two ↦ refl ];
       four = λ v. elim v [ One ↦ refl | Two ↦ refl ];
       seven = refl;
+      eight = refl;
       other = refl;
       version = refl;
       rest = refl;

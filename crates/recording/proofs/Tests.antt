@@ -3,16 +3,14 @@
 -- Assumes nothing.
 use Prim.Native.Nat.{ℕ}
 use mathlib.Core.Path.{_≡_, refl, ap₂}
-use mathlib.Core.Bool.{Bool, true, false, not, _&&_, _||_, false≢true}
+use mathlib.Core.Bool.{Bool, true, false, _&&_, false≢true}
 use mathlib.Core.List.{List, [], _∷_}
 use borrow.Author.Tests.{ltb-false, le-ltb, eqb-true, eq-eqb, not-false}
-use lib.Dec.{eqb, ltb}
-use lib.ListN.{length}
+use lib.Dec.{eqb}
 use Rattle.lists.proofs.Tests.{neither, equal, same}
 use Rattle.machine.specs.State.{Stepped}
-use Rattle.forms.specs.Saved.{sizeAt}
-use Rattle.recording.specs.Item.{codeIn, expectedDestination, isBad}
-use Rattle.recording.specs.Replay.{shown, sameBytes, differs}
+use Rattle.recording.specs.Item.{expectedDestination, isBad}
+use Rattle.recording.specs.Replay.{sameBytes, differs}
 use Rattle.recording.specs.Reports.{WellFormed, Agrees}
 
 -- ---- bytes

@@ -7,7 +7,8 @@ use lib.ListN.{length, getD, take, drop}
 use Rattle.forms.specs.Numbers.{numberIn}
 use Rattle.forms.specs.Saved.{sizeAt}
 
--- ---- R14.2: the parts of the item that bytes begin with, in their order. Past the end of the bytes a byte reads as 0.
+-- ---- R14.2: the parts of the item that bytes begin with, in their order. Where bytes are missing what is read means nothing: such an
+-- item is bad (R14.3).
 
 -- behind 4 bytes of length
 abbrev pub itemVersion : List ℕ → ℕ

@@ -10,7 +10,7 @@ use Rattle.forms.specs.declared.Version.{Version}
 use Rattle.forms.specs.Numbers.{big}
 use Rattle.forms.specs.Form.{savedForm}
 use Rattle.forms.specs.Trips.{Held}
-use Rattle.recording.specs.Replay.{shown, replay}
+use Rattle.recording.specs.Replay.{shownBy, replay}
 use Rattle.recording.specs.declared.Report.the-variants.{Same}
 
 -- R14.2: the item of a step, by its code, its memory, and what it gave
@@ -22,7 +22,7 @@ itemOf code memory o =
     ++ big 2 (length memory)
     ++ memory
     ++ big 4 (o .state .control)
-    ++ shown code (o .answer .number) (o .state .vectors) (o .state .masks)
+    ++ shownBy o code
 
 -- R14.4: the items of steps, each with its code and its memory, and each from the state that the one before has left
 unfoldable pub itemsOf : State → List (List ℕ × List ℕ) → List ℕ

@@ -40,6 +40,10 @@ shown code number vectors masks =
     (ofFields (decoded code) (zeros 64) (λ (i : Instruction). held vectors masks (i .destination)))
     (zeros 64)
 
+-- the same of a step, with the code of its item
+abbrev pub shownBy : Stepped → List ℕ → List ℕ
+shownBy o code = shown code (o .answer .number) (o .state .vectors) (o .state .masks)
+
 -- ---- R14.6: what a step gave is not what its item expects
 
 -- two runs of bytes are the same
@@ -53,7 +57,7 @@ unfoldable pub differs : Stepped → List ℕ → Bool
 differs o bytes =
     not (eqb (o .answer .number) (expectedNumber bytes))
     || not (eqb (o .state .control) (expectedControl bytes))
-    || not (sameBytes (shown (codeIn bytes) (o .answer .number) (o .state .vectors) (o .state .masks)) (expectedDestination bytes))
+    || not (sameBytes (shownBy o (codeIn bytes)) (expectedDestination bytes))
 
 -- ---- R14.7: the report
 

@@ -1,14 +1,14 @@
 -- docs/RULES.md, R14.8: when each report is given. The statement; its proof is in proofs/Reports.antt.
 use Prim.Native.Nat.{ℕ, zero, suc, _+_, _≤_, _<_}
 use mathlib.Core.List.{List}
-use mathlib.Core.Logic.{_↔_, _≢_}
+use mathlib.Core.Logic.{_↔_}
 use mathlib.Core.Path.{_≡_}
 use lib.ListN.{length, drop}
 use Rattle.machine.specs.State.{State, Stepped}
 use Rattle.forms.specs.Saved.{sizeAt, loadFront}
 use Rattle.recording.specs.Item.{itemVersion, expectedNumber, codeCount, codeIn, memoryCount, expectedControl, expectedDestination}
 use Rattle.recording.specs.Item.{itemSize}
-use Rattle.recording.specs.Replay.{stepOf, shown, replay}
+use Rattle.recording.specs.Replay.{stepOf, shownBy, replay}
 use Rattle.recording.specs.declared.Report.{Report}
 use Rattle.recording.specs.declared.Report.the-variants.{Same, Differs, BadItem, BadState}
 
@@ -24,7 +24,7 @@ pub record WellFormed (bytes : List ℕ) : Type 0 where
 pub record Agrees (o : Stepped) (bytes : List ℕ) : Type 0 where
   pub number : o .answer .number ≡ expectedNumber bytes
   pub control : o .state .control ≡ expectedControl bytes
-  pub destination : shown (codeIn bytes) (o .answer .number) (o .state .vectors) (o .state .masks) ≡ expectedDestination bytes
+  pub destination : shownBy o (codeIn bytes) ≡ expectedDestination bytes
 
 module _ (recording : List ℕ) where
   -- R14.1: the saved form loads

@@ -1,15 +1,15 @@
 -- The replay by the tests of the code: whether the saved form is there and loads, and the items behind it.
 -- Assumes nothing.
 use Prim.Native.Nat.{ℕ, _-_, _<_}
-use mathlib.Core.Path.{_≡_, sym, ap, _∙_}
+use mathlib.Core.Path.{_≡_, _∙_}
 use mathlib.Core.List.{List}
 use borrow.Author.Tests.{eq-eqb, ne-eqb}
 use lib.ListN.{length, take, drop}
 use Rattle.machine.specs.State.{State}
-use Rattle.forms.specs.Saved.{sizeAt, Load, load, blank, loadFront}
+use Rattle.forms.specs.Saved.{sizeAt, load, blank, loadFront}
 use Rattle.forms.proofs.Front.{front-lent, front-cut}
 use Rattle.forms.proofs.Slices.{to-end}
-use Rattle.recording.specs.Replay.{replayFrom, itemsIn, replay}
+use Rattle.recording.specs.Replay.{replayFrom, replay}
 use Rattle.recording.specs.declared.Report.{Report}
 use Rattle.recording.specs.declared.Report.the-variants.{BadState}
 

@@ -70,7 +70,7 @@ fn differs(
         | are_other(&shown, &item[destination_at..end])
 }
 
-// R14.7: item after item, from a state.
+// R14.7: item after item, from a state, of which nothing is promised after: the caller does not look at it again.
 fn replay_items(
     vectors: &mut [u8],
     masks: &mut [u64; 8],

@@ -1,4 +1,4 @@
--- docs/RULES.md, section 10: numbers as text, and a buffer that a text is put into.
+-- docs/RULES.md, section 10 and R14.10: numbers as text, and a buffer that a text is put into.
 use Prim.Native.Nat.{ℕ, zero, suc, _+_, _-_, _/_, _%_, _^_, _≤_}
 use mathlib.Core.Bool.{cond}
 use mathlib.Core.List.{List, [], _∷_, _++_}
@@ -33,9 +33,9 @@ space = 32 ∷ []
 abbrev pub lineFeed : List ℕ
 lineFeed = 10 ∷ []
 
--- ---- R10.6: a buffer that a text is put into
+-- ---- R10.6, R14.10: a buffer that a text is put into
 
--- n bytes, a text, were put at the start of a buffer, and fit it; what stands behind them is as before
+-- n bytes, a text, were put at the start of a buffer, and are inside it; what stands behind them is as before
 pub record Wrote (text before : List ℕ) (n : ℕ) (after : List ℕ) : Type 0 where
   pub count : n ≡ length text
   pub buffer : after ≡ text ++ drop (length text) before
