@@ -1,4 +1,5 @@
 pub mod Tests
+pub mod Turns
 pub mod Reports
 pub mod Recorded
 pub mod Rows

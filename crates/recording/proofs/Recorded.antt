@@ -5,7 +5,7 @@ use Prim.Native.Nat.{ℕ, zero, suc, _+_, _^_, _≤_, _<_}
 use mathlib.Core.List.{List, [], _∷_, _++_, append-assoc}
 use mathlib.Core.Path.{_≡_, refl, sym, ap, _∙_}
 use native.Mathlib.Omega.{arith}
-use borrow.Author.Tests.{leb-false, ne-eqb}
+use borrow.Author.Tests.{leb-false}
 use lib.Bits.{or-lt}
 use lib.ListN.{length, take, drop, length-append, length-drop}
 use lib.Seq.{take-at, drop-at, drop-drop, length-paste}
@@ -37,11 +37,12 @@ use Rattle.forms.proofs.Sizes.{forms-in-front}
 use Rattle.forms.proofs.Front.{front-loads}
 use Rattle.recording.specs.Item.{itemVersion, expectedNumber, codeCount, codeIn, memoryCount, memoryIn, expectedControl}
 use Rattle.recording.specs.Item.{expectedDestination, itemSize}
-use Rattle.recording.specs.Replay.{held, hasDestination, shown, replayFrom, itemsIn, replay}
+use Rattle.recording.specs.Replay.{stepOf, held, hasDestination, shown, replayFrom, itemsIn, replay}
 use Rattle.recording.specs.Reports.{WellFormed, Agrees}
 use Rattle.recording.specs.Recorded.{itemOf, itemsOf, Short, Recorded}
 use Rattle.recording.specs.declared.Report.the-variants.{Same}
 use Rattle.recording.proofs.Tests.{not-bad, not-differs}
+use Rattle.recording.proofs.Turns.{turn-ends, turn-on}
 
 -- ---- one part behind the other
 
@@ -219,28 +220,20 @@ module _ (s : State) (r : Right s) (code memory rest : List ℕ) (short : length
   -- so the replay goes on behind it, with enough turns for what is left
   turn : (m k : ℕ) → length bytes ≤ m
       → (n : ℕ) × (length rest ≤ n) × (replayFrom m s bytes k ≡ replayFrom n (o .state) rest (k + 1))
-  unfolding replayFrom
   turn zero k h = absurd (omega (arith, h, total))
-  turn (suc m) k h = (
-    m,
-    omega (arith, h, total),
-    rw (
-      ne-eqb (length bytes) 0 (λ z. omega (arith, z, total)),
-      not-bad bytes good,
-      code-read,
-      memory-read,
-      not-differs bytes o agrees,
-      rest-behind,
-    ),
-  )
+  turn (suc m) k h =
+      let same : stepOf s bytes ≡ o = rw (code-read, memory-read) in (
+        m,
+        omega (arith, h, total),
+        turn-on s bytes k m (not-bad bytes good) (rw same (not-differs bytes o agrees)) ∙ rw (same, rest-behind),
+      )
 
 -- ---- all items
 
 goes : (steps : List (List ℕ × List ℕ)) (s : State) → Right s → Short steps → (m k : ℕ) → length (itemsOf s steps) ≤ m
     → replayFrom m s (itemsOf s steps) k ≡ Same (k + length steps)
-unfolding replayFrom itemsOf
-goes [] s r h zero k e = ap Same (omega arith)
-goes [] s r h (suc m) k e = ap Same (omega arith)
+unfolding itemsOf
+goes [] s r h m k e = turn-ends s [] k m refl ∙ ap Same (omega arith)
 goes (x ∷ steps) s r h m k e =
     let next : State = step (x .1) s (x .0) .state in
     let t = turn s r (x .0) (x .1) (itemsOf next steps) (h .0) (h .1) m k e in

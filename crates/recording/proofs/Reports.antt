@@ -20,6 +20,7 @@ use Rattle.recording.specs.Reports.{WellFormed, Agrees, Loads, itemAt, f
 use Rattle.recording.specs.declared.Report.{Report}
 use Rattle.recording.specs.declared.Report.the-variants.{Same, Differs, BadItem, BadState}
 use Rattle.recording.proofs.Tests.{well-formed, not-bad, agree, not-differs}
+use Rattle.recording.proofs.Turns.{turn-ends, turn-bad, turn-differs, turn-on}
 
 -- a test that holds refutes what would make it fail
 refuted : {A : Type 0} {t : Bool} → (A → t ≡ false) → t ≡ true → ¬ A
@@ -56,24 +57,16 @@ module _ (r : List ℕ) where
   inside : (n : ℕ) → WellFormed (from r n) → itemAt r n < length r
   inside n w = omega (arith, w .whole, length-drop (itemAt r n) r)
 
-  left : (n : ℕ) → itemAt r n < length r → eqb (length (from r n)) 0 ≡ false
-  left n h = ne-eqb (length (from r n)) 0 (λ e. omega (arith, e, length-drop (itemAt r n) r))
-
   -- ---- one item, and any number of them
 
   abbrev at : ℕ → ℕ → Report
   at m n = replayFrom m (stateBefore r n) (from r n) n
 
   turn : (m n : ℕ) → WellFormed (from r n) → Agrees (steppedAt r n) (from r n) → at (suc m) n ≡ at m (suc n)
-  unfolding replayFrom itemAt stateBefore
+  unfolding itemAt stateBefore
   turn m n w a =
-      rw (
-        left n (inside n w),
-        not-bad (from r n) w,
-        not-differs (from r n) (steppedAt r n) a,
-        drop-drop (itemSize (from r n)) (itemAt r n) r,
-        add-one n,
-      )
+      turn-on (stateBefore r n) (from r n) n m (not-bad (from r n) w) (not-differs (from r n) (steppedAt r n) a)
+      ∙ rw (drop-drop (itemSize (from r n)) (itemAt r n) r, add-one n)
 
   reached : (n m : ℕ) → GoodBefore r n → at (n + m) 0 ≡ at m n
   reached zero m a = rw (zero-add m)
@@ -94,24 +87,19 @@ module _ (r : List ℕ) where
       replayed l n a (suc (length (itemsIn r) - suc n)) (omega (arith, p .least, length-drop (sizeAt r) r))
 
   given : (x : Report) → Says r x → replay r ≡ x
-  unfolding replay replayFrom
+  unfolding replay
   given (Same n) s =
       let p : Placed n = placed (s .0) n (s .1) in
       replayed (s .0) n (s .1) (length (itemsIn r) - n) (omega (arith, p .least, p .most, length-drop (sizeAt r) r))
-      ∙ ended (length (itemsIn r) - n)
-    where
-      ended : (m : ℕ) → at m n ≡ Same n
-      ended zero = refl
-      ended (suc m) = rw (eq-eqb (length (from r n)) 0 (omega (arith, s .2, length-drop (itemAt r n) r)))
+      ∙ turn-ends (stateBefore r n) (from r n) n (length (itemsIn r) - n) (omega (arith, s .2, length-drop (itemAt r n) r))
   given (BadItem n) s =
-      more (s .0) n (s .1) (s .2) ∙ rw (left n (s .2), holds (isBad (from r n)) (λ e. s .3 (well-formed (from r n) e)))
+      more (s .0) n (s .1) (s .2)
+      ∙ turn-bad (stateBefore r n) (from r n) n _ (omega (arith, s .2, length-drop (itemAt r n) r))
+      (holds (isBad (from r n)) (λ e. s .3 (well-formed (from r n) e)))
   given (Differs n) s =
       more (s .0) n (s .1) (inside n (s .2))
-      ∙ rw (
-        left n (inside n (s .2)),
-        not-bad (from r n) (s .2),
-        holds (differs (steppedAt r n) (from r n)) (λ e. s .3 (agree (from r n) (steppedAt r n) e)),
-      )
+      ∙ turn-differs (stateBefore r n) (from r n) n _ (not-bad (from r n) (s .2))
+      (holds (differs (steppedAt r n) (from r n)) (λ e. s .3 (agree (from r n) (steppedAt r n) e)))
   given BadState s = rw (ne-eqb (loadFront r .number) 0 s)
 
   -- ---- and true where it is given

@@ -1,12 +1,10 @@
 -- The loop over the items: from the place that has been reached, the replay goes on to the report of the whole.
 -- Assumes nothing.
-use Prim.Native.Nat.{ℕ, zero, suc, _+_, _-_, _≤_, _<_}
+use Prim.Native.Nat.{ℕ, suc, _+_, _-_, _≤_, _<_}
 use mathlib.Core.Path.{_≡_, refl, sym, ap, _∙_}
 use mathlib.Core.Bool.{Bool, true, false, cond, true≢false, false≢true}
 use mathlib.Core.List.{List}
 use native.Mathlib.Omega.{arith}
-use borrow.Author.Tests.{eq-eqb, ne-eqb}
-use lib.Dec.{eqb}
 use lib.ListN.{length, drop, length-drop}
 use lib.Seq.{drop-drop}
 use Rattle.machine.specs.State.{State}
@@ -16,6 +14,7 @@ use Rattle.recording.specs.Reports.{WellFormed}
 use Rattle.recording.specs.declared.Report.{Report}
 use Rattle.recording.specs.declared.Report.the-variants.{Same, Differs, BadItem}
 use Rattle.recording.proofs.Tests.{well-formed}
+use Rattle.recording.proofs.Turns.{turn-ends, turn-bad, turn-differs, turn-on}
 use Rattle.replayer.specs.Work.{found}
 use Rattle.replayer.specs.declared.item.Found.{Found}
 use Rattle.replayer.specs.declared.item.Found.the-variants.{Bad, Item}
@@ -81,38 +80,29 @@ module _ {items : List ℕ} {s₀ s : State} {at count : ℕ} (g : Going items s
   all = replayFrom (length items) s₀ items 0
 
   pub ends : length items ≤ at → Same count ≡ all
-  unfolding replayFrom
-  ends h = sym (g .rest ∙ none (length items - count))
-    where
-      none : (m : ℕ) → replayFrom m s (drop at items) count ≡ Same count
-      none zero = refl
-      none (suc m) = rw (eq-eqb (length (drop at items)) 0 (omega (arith, length-drop at items)))
+  ends h = sym (g .rest ∙ turn-ends s (drop at items) count (length items - count) (omega (arith, length-drop at items)))
 
   -- with the item that stands here
   module _ (h : at < length items) {bytes : List ℕ} (e : bytes ≡ drop at items) where
-    more : length items - count ≡ suc (length items - (count + 1))
-    more = omega (arith, g .counted)
+    -- how many turns are left, one at least
+    abbrev turns : ℕ
+    turns = length items - (count + 1)
 
-    left : eqb (length (drop at items)) 0 ≡ false
-    left = ne-eqb (length (drop at items)) 0 (λ z. omega (arith, z, length-drop at items))
+    here : all ≡ replayFrom (suc turns) s bytes count
+    here = let more : length items - count ≡ suc (length items - (count + 1)) = omega (arith, g .counted) in g .rest ∙ rw (more, e)
 
     pub bad : isBad bytes ≡ true → BadItem count ≡ all
-    unfolding replayFrom
-    bad b = sym (g .rest ∙ rw (more, left, ← e, b))
+    bad b = sym (here ∙ turn-bad s bytes count turns (omega (arith, ap length e, length-drop at items)) b)
 
     module _ (b : isBad bytes ≡ false) where
       pub other : differs (stepOf s bytes) bytes ≡ true → Differs count ≡ all
-      unfolding replayFrom
-      other d = sym (g .rest ∙ rw (more, left, ← e, b, d))
+      other d = sym (here ∙ turn-differs s bytes count turns b d)
 
       pub goes : differs (stepOf s bytes) bytes ≡ false → itemSize bytes ≤ length bytes → {t : State} → t ≡ stepOf s bytes .state
           → length (t .vectors) ≡ 2048 → {next : ℕ} → next ≡ at + itemSize bytes → Going items s₀ t next (count + 1)
-      unfolding replayFrom
       goes d w {t} f k {next} n =
           record {
-            rest =
-                g .rest
-                ∙ rw (more, left, ← e, b, d, ← f, e, drop-drop (itemSize (drop at items)) at items, n, e);
+            rest = here ∙ turn-on s bytes count turns b d ∙ rw (← f, n, e, drop-drop (itemSize (drop at items)) at items);
             within = omega (arith, w, length-drop at items, ap length e, n);
             counted = omega (arith, g .counted, n);
             file = k;
