@@ -1,4 +1,6 @@
 // The command (R10.1 to R10.6): a saved state, code and memory are read, steps are made, and their lines are put into the output.
+#![tactic(auto)]
+
 ghost use Rattle.std.specs.Prelude.{◌≡◌, ◌+◌, ◌≤◌, ◌<◌, length, drop};
 ghost use Rattle.machine.specs.Step.{step};
 ghost use Rattle.machine.specs.State.{state_of, stepped_of};

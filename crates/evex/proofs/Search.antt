@@ -2,7 +2,7 @@
 -- finds.
 -- Assumes nothing.
 use mathlib.Core.Path.{◌≡◌, refl}
-use mathlib.Core.Bool.{Bool, true, false, ◌&&◌, and_false, true≢false}
+use mathlib.Core.Bool.{Bool, true, false, ◌&&◌, and-false, true≢false}
 use mathlib.Core.List.{List, [], ◌∷◌}
 use Prim.Native.Nat.{ℕ, zero, suc, ◌≤◌}
 use native.Mathlib.Omega.{arith}
@@ -56,7 +56,7 @@ pub without : (l : List Row) (prefix opcode : ℕ) → some (λ row. eqb row.3 o
 without [] prefix opcode e = refl
 without (r ∷ l) prefix opcode e =
     let both = neither (eqb r.3 opcode) (some (λ row. eqb row.3 opcode) l) e in
-    rw (both.0, and_false (eqb r.0 prefix)) (without l prefix opcode both.1)
+    rw (both.0, and-false (eqb r.0 prefix)) (without l prefix opcode both.1)
 
 -- what passes a test that no row passes: nothing that is found
 abbrev pub passes_test : (Row → Bool) → Listed → Bool

@@ -11,7 +11,7 @@ use super::list::{Listed, find};
 use super::{Address, Base, Index, Operand};
 
 // R3.1. `sib` is 0 where there is no SIB byte.
-#[derive(Drop)]
+#[derive(Clone, Copy)]
 pub struct Head {
     pub byte1: u8,
     pub byte2: u8,

@@ -1,4 +1,6 @@
 // The bytes of an instruction: its fields (R3.1 to R3.15), or why they are refused (R4.5 to R4.11).
+#![tactic(auto)]
+
 ghost use Rattle.std.specs.Prelude.{◌≡◌, map};
 ghost use Rattle.lists.specs.Lists.{first_of};
 ghost use Rattle.evex.specs.Fields.{instruction};
@@ -14,7 +16,7 @@ mod form;
 mod head;
 mod list;
 
-#[derive(Drop)]
+#[derive(Clone, Copy)]
 pub enum Operation {
     Add,
     Multiply,
@@ -32,7 +34,7 @@ pub enum Operation {
 // What a row says beyond what finds it and its operation (R2.2, R3.6 to R3.8, R3.15): whether there is one element, whether there
 // is a first source, whether the destination is an operand too; whether b in register form only suppresses exceptions, whether the
 // destination is a mask, and whether there is an immediate.
-#[derive(Drop)]
+#[derive(Clone, Copy)]
 pub struct Shape {
     pub scalar: bool,
     pub first: bool,
@@ -44,7 +46,7 @@ pub struct Shape {
 
 // Whose rounding mode and masks of exceptions count: the control word's, the mode that the instruction gives, with all exceptions masked, or
 // the control word's mode with all of them masked.
-#[derive(Drop)]
+#[derive(Clone, Copy)]
 pub enum Rounding {
     Control,
     Embedded(Mode),
@@ -52,21 +54,21 @@ pub enum Rounding {
 }
 
 // What an instruction writes: a vector register, or a mask.
-#[derive(Drop)]
+#[derive(Clone, Copy)]
 pub enum Destination {
     Vector(usize),
     Mask(usize),
 }
 
 // The first source: a vector register, or none.
-#[derive(Drop)]
+#[derive(Clone, Copy)]
 pub enum Source {
     None,
     Register(usize),
 }
 
 // What an address starts from: nothing, a general register, or the next instruction's address.
-#[derive(Drop)]
+#[derive(Clone, Copy)]
 pub enum Base {
     None,
     General(usize),
@@ -74,13 +76,13 @@ pub enum Base {
 }
 
 // The general register whose value times 2 to the `scale` is added.
-#[derive(Drop)]
+#[derive(Clone, Copy)]
 pub enum Index {
     None,
     Scaled { number: usize, scale: u8 },
 }
 
-#[derive(Drop)]
+#[derive(Clone, Copy)]
 pub struct Address {
     pub base: Base,
     pub index: Index,
@@ -88,7 +90,7 @@ pub struct Address {
 }
 
 // The second source: a vector register, or memory, where with broadcast one word serves all lanes.
-#[derive(Drop)]
+#[derive(Clone, Copy)]
 pub enum Operand {
     Register(usize),
     Memory { address: Address, broadcast: bool },
@@ -96,7 +98,7 @@ pub enum Operand {
 
 // The fields of an instruction. Elements are 1, 8, 16 or 32, one to a lane from lane 0 on (R3.7); `mask` is aaa (R5.1); the immediate is 0
 // where there is none; the size is the length in bytes (R3.14).
-#[derive(Drop)]
+#[derive(Clone, Copy)]
 pub struct Instruction {
     pub operation: Operation,
     pub shape: Shape,
@@ -112,14 +114,14 @@ pub struct Instruction {
 }
 
 // Why bytes are refused: the code ends too early; not in the list; reserved encoding (R4.1).
-#[derive(Drop)]
+#[derive(Clone, Copy)]
 pub enum Refusal {
     Incomplete,
     Unlisted,
     Reserved,
 }
 
-#[derive(Drop)]
+#[derive(Clone, Copy)]
 pub enum Decoded {
     Fields(Instruction),
     Refused(Refusal),

@@ -6,10 +6,10 @@ ghost use Rattle.evex.specs.List.{rows, operation, shape, find};
 use super::{Operation, Shape};
 
 // A row of the table: prefix bits, map, W, opcode, operation, shape.
-#[derive(Drop)]
+#[derive(Clone, Copy)]
 pub struct Row(pub u8, pub u8, pub u8, pub u8, pub Operation, pub Shape);
 
-#[derive(Drop)]
+#[derive(Clone, Copy)]
 pub enum Listed {
     Found(Row),
     Nothing,

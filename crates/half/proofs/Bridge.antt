@@ -13,7 +13,7 @@ use lib.Ieee.Digits.{size-lt, size-le, size_reaches}
 use borrow.Author.Tests.{le-leb, lt-leb, le-ltb, lt-ltb, eq-eqb, ne_eqb, leb-true, leb-false, ltb-true, ltb-false, eqb-true, eqb-false}
 use Rattle.half.specs.Format.{with_sign}
 use Rattle.half.specs.Exact.{Magnitude, ratio, root_of, denominator, against, whole, round_to}
-use Rattle.half.specs.Round.{OE, UE, PE, flag, result, significant, overflows, inexact, tiny, encode, overflow_fields, rounded_half}
+use Rattle.half.specs.Round.{OE, UE, PE, flag, outcome, significant, overflows, inexact, tiny, encode, overflow_fields, rounded_half}
 use Rattle.half.specs.Work.{place}
 use Rattle.half.specs.declared.Mode.{Mode}
 use Rattle.half.specs.declared.Outcome.{Outcome}
@@ -237,8 +237,8 @@ coarse mode unmasked_ue neg t =
     let z = place t (2 ^ (k + 2)) in
     let m = k * 1024 + steps mode neg z in
     let left = not (eqb (z % 4) 0) in
-    cond (leb 31744 m) (result (with_sign neg (overflow_fields mode neg)) (bit_or OE PE))
-    (result (with_sign neg m) (bit_or (flag PE left) (flag UE ((ltb 0 t && ltb (steps mode neg t) 2048) && (unmasked_ue || left)))))
+    cond (leb 31744 m) (outcome (with_sign neg (overflow_fields mode neg)) (bit_or OE PE))
+    (outcome (with_sign neg m) (bit_or (flag PE left) (flag UE ((ltb 0 t && ltb (steps mode neg t) 2048) && (unmasked_ue || left)))))
 
 -- ---- the bridge
 module _ (x : Magnitude) (t : ℕ) (hd : 0 < denominator x) (p : Placed x t) (mode : Mode) (neg : Bool) where

@@ -15,7 +15,7 @@ use lib.Ieee.Digits.{size-lt, size_reaches}
 use borrow.Author.Tests.{le-leb, lt-leb, le-ltb, leb-true, leb-false, eqb-true, eqb-false, not-true}
 use Rattle.half.specs.Format.{with_sign}
 use Rattle.half.specs.Exact.{Magnitude, ratio, denominator}
-use Rattle.half.specs.Round.{OE, PE, flag, result, overflow_fields, rounded_half}
+use Rattle.half.specs.Round.{OE, PE, flag, outcome, overflow_fields, rounded_half}
 use Rattle.half.specs.Work.{place}
 use Rattle.half.specs.declared.Mode.{Mode}
 use Rattle.half.specs.declared.Outcome.{Outcome}
@@ -28,8 +28,8 @@ use Rattle.half.proofs.Sticky.{of_place, sticky_shift, sticky_ratio, rounded_sca
 -- ---- z / 4 in steps of 2 ^ (k - 24), for a z of 13 digits: a normal half, or too large
 unfoldable kept : Mode → Bool → ℕ → ℕ → Outcome
 kept mode neg k z =
-    cond (leb 31744 (k * 1024 + steps mode neg z)) (result (with_sign neg (overflow_fields mode neg)) (bit_or OE PE))
-    (result (with_sign neg (k * 1024 + steps mode neg z)) (flag PE (not (eqb (z % 4) 0))))
+    cond (leb 31744 (k * 1024 + steps mode neg z)) (outcome (with_sign neg (overflow_fields mode neg)) (bit_or OE PE))
+    (outcome (with_sign neg (k * 1024 + steps mode neg z)) (flag PE (not (eqb (z % 4) 0))))
 
 -- the place T has the 13 digits z, and k + 1 more
 module _ (T k z : ℕ) (e : z ≡ place T (2 ^ (k + 2))) (lo : 2 ^ 12 ≤ z) (hi : z < 2 ^ 13) where
@@ -167,13 +167,13 @@ module _ (mode : Mode) (neg : Bool) (z k : ℕ) (lo : 2 ^ 12 ≤ z) (hi : z < 2 
       ∙ of_place mode unmasked_ue neg (z * 2 ^ (k + 1))
       ∙ coarse-kept (z * 2 ^ (k + 1)) k z (sym p) lo hi mode unmasked_ue neg
 
-  pub packed_over : 31744 ≤ k * 1024 + q → {o : Outcome} → o ≡ result (with_sign neg (overflow_fields mode neg)) (bit_or OE PE)
+  pub packed_over : 31744 ≤ k * 1024 + q → {o : Outcome} → o ≡ outcome (with_sign neg (overflow_fields mode neg)) (bit_or OE PE)
       → (unmasked_ue : Bool) → o ≡ rounded_half mode unmasked_ue neg (ratio (z * 2 ^ k) (2 ^ 26))
   unfolding kept
   packed_over g ho unmasked_ue = ho ∙ sym (rounds unmasked_ue ∙ rw (← hq, le-leb 31744 (k * 1024 + q) g))
 
   pub packed_fits : k * 1024 + q < 31744 → {h f : ℕ} → h ≡ with_sign neg (k * 1024 + q) → f ≡ flag PE (not (eqb (z % 4) 0))
-      → (unmasked_ue : Bool) → result h f ≡ rounded_half mode unmasked_ue neg (ratio (z * 2 ^ k) (2 ^ 26))
+      → (unmasked_ue : Bool) → outcome h f ≡ rounded_half mode unmasked_ue neg (ratio (z * 2 ^ k) (2 ^ 26))
   unfolding kept
   packed_fits g hh hf unmasked_ue = sym (rounds unmasked_ue ∙ rw (← hq, lt-leb 31744 (k * 1024 + q) g, ← hh, ← hf))
 

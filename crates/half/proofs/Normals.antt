@@ -11,7 +11,7 @@ use lib.Pow.{shl_exact}
 use borrow.Author.Tests.{ltb-true, ltb-false, eq-eqb, ne_eqb}
 use Rattle.half.specs.Format.{exponent_field, fraction_field, significand, is_finite, is_subnormal, is_zero, negative, units}
 use Rattle.half.specs.Exact.{ratio, root_of}
-use Rattle.half.specs.Round.{result, rounded_half}
+use Rattle.half.specs.Round.{outcome, rounded_half}
 use Rattle.half.specs.Operations.{unlike, exact_sum, half_add, half_multiply, half_divide, half_root, half_multiply_add}
 use Rattle.half.specs.Work.{is_normal}
 use Rattle.half.specs.declared.Mode.{Mode}
@@ -82,8 +82,8 @@ module _ (h : ℕ) (n : is_normal h ≡ true) where
   normal_raised {x} {i} hx hi = shl_exact {a = x} 11 i 64 (omega (arith, significand_lt h)) (omega (arith, normal_lt)) ∙ normal_units hx hi
 
 -- ---- rounding alone (R6.16 to R6.24)
-plain : (o : Outcome) → result o.half (bit_or 0 o.flags) ≡ o
-plain o = ap (λ (f : ℕ). result o.half f) (or_zero_l o.flags)
+plain : (o : Outcome) → outcome o.half (bit_or 0 o.flags) ≡ o
+plain o = ap (λ (f : ℕ). outcome o.half f) (or_zero_l o.flags)
 
 pub normal_root : (mode : Mode) (unmasked_ue : Bool) (a : ℕ) → is_normal a ≡ true → negative a ≡ false
     → half_root mode unmasked_ue a ≡ rounded_half mode unmasked_ue false (root_of (units a) (2 ^ 24))

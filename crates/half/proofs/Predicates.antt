@@ -1,7 +1,7 @@
 -- The table of predicates, packed into two numbers as the code has it; what one predicate picks; and minimum and maximum as what two of the
 -- table pick.
 use Prim.Native.Nat.{ℕ, ◌*◌, ◌/◌, ◌%◌, ◌^◌}
-use mathlib.Core.Bool.{Bool, true, false, not, ◌&&◌, ◌||◌, cond, or_true, or_false}
+use mathlib.Core.Bool.{Bool, true, false, not, ◌&&◌, ◌||◌, cond, or-true, or-false}
 use mathlib.Core.List.{[], ◌∷◌}
 use mathlib.Core.Path.{◌≡◌, refl, sym, ap, ◌∙◌}
 use native.Mathlib.Omega.{arith}
@@ -65,7 +65,7 @@ one_flag false i false = refl
 pub flags_are : (a b : ℕ) (i : Bool) {n s t : Bool} {x y : ℕ} → n ≡ some is_nan (a ∷ b ∷ []) → s ≡ is_subnormal a → t ≡ is_subnormal b
     → x ≡ flag IE (n && i) → y ≡ flag DE (not n && (s || t)) → bit_or x y ≡ comparison_flags i a b
 flags_are a b i {n} {s} {t} en es et ex ey =
-    rw (ex, ey, ← en, ← es, ← et) (one_flag n i (s || t) ∙ ap (λ d. cond n (flag IE i) (flag DE (s || d))) (sym (or_false t)))
+    rw (ex, ey, ← en, ← es, ← et) (one_flag n i (s || t) ∙ ap (λ d. cond n (flag IE i) (flag DE (s || d))) (sym (or-false t)))
 
 -- ---- minimum and maximum
 
@@ -90,11 +90,11 @@ both_signal = (refl, refl)
 module _ (a b : ℕ) where
   pub minimum_is : picked (predicate_of 1) false a b ≡ half_minimum a b
   unfolding half_minimum
-  minimum_is = rw (picks_lesser (relation a b) a b, both_signal.0, or_true (some is_signalling (a ∷ b ∷ [])))
+  minimum_is = rw (picks_lesser (relation a b) a b, both_signal.0, or-true (some is_signalling (a ∷ b ∷ [])))
 
   pub maximum_is : picked (predicate_of 14) false a b ≡ half_maximum a b
   unfolding half_maximum
-  maximum_is = rw (picks_larger (relation a b) a b, both_signal.1, or_true (some is_signalling (a ∷ b ∷ [])))
+  maximum_is = rw (picks_larger (relation a b) a b, both_signal.1, or-true (some is_signalling (a ∷ b ∷ [])))
 
   -- and comparison
   pub compare_is : (i : ℕ) → picked (predicate_of i) true a b ≡ half_compare i a b

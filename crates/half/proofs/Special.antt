@@ -7,7 +7,7 @@ use native.Mathlib.Omega.{arith}
 use lib.Bits.{or_zero_r, xor_zero_r, xor_shr, xor_mod}
 use Rattle.half.specs.Format.{exponent_field, fraction_field, is_finite, is_infinite, is_nan, is_subnormal, is_zero, negative, with_sign}
 use Rattle.half.specs.Format.{infinity, negated}
-use Rattle.half.specs.Round.{DE, ZE, flag, result}
+use Rattle.half.specs.Round.{DE, ZE, flag, outcome}
 use Rattle.lists.specs.Lists.{some}
 use Rattle.half.specs.Operations.{nan_result, invalid, unlike, half_add, half_subtract, half_multiply, half_divide, half_root}
 use Rattle.half.specs.Operations.{half_multiply_add}
@@ -104,11 +104,11 @@ module _ (a b : ℕ) (mode : Mode) (unmasked_ue : Bool) where
 
     module _ (v : (is_infinite a && is_infinite b && unlike a b) ≡ false) {de : ℕ} (d : de ≡ flag DE (some is_subnormal (a ∷ b ∷ b ∷ [])))
       where
-        pub add_left : is_infinite a ≡ true → result a de ≡ half_add mode unmasked_ue a b
+        pub add_left : is_infinite a ≡ true → outcome a de ≡ half_add mode unmasked_ue a b
         unfolding half_add
         add_left i = rw (n, v, i, or_zero_r, two_denormals a b d)
 
-        pub add_right : is_infinite a ≡ false → is_infinite b ≡ true → result b de ≡ half_add mode unmasked_ue a b
+        pub add_right : is_infinite a ≡ false → is_infinite b ≡ true → outcome b de ≡ half_add mode unmasked_ue a b
         unfolding half_add
         add_right i j = rw (n, v, i, j, or_zero_r, two_denormals a b d)
 
@@ -125,7 +125,7 @@ module _ (a b : ℕ) (mode : Mode) (unmasked_ue : Bool) where
     multiply_invalid i h = rw (n, i) h
 
     pub multiply_infinite : (is_zero a && is_infinite b || is_infinite a && is_zero b) ≡ false → (is_infinite a || is_infinite b) ≡ true
-        → {de h : ℕ} → de ≡ flag DE (some is_subnormal (a ∷ b ∷ b ∷ [])) → h ≡ infinity (unlike a b) → result h de ≡ half_multiply mode
+        → {de h : ℕ} → de ≡ flag DE (some is_subnormal (a ∷ b ∷ b ∷ [])) → h ≡ infinity (unlike a b) → outcome h de ≡ half_multiply mode
         unmasked_ue a b
     unfolding half_multiply
     multiply_infinite v i d h = rw (n, v, i, or_zero_r, two_denormals a b d, ← h)
@@ -144,18 +144,18 @@ module _ (a b : ℕ) (mode : Mode) (unmasked_ue : Bool) where
 
     module _ (v : (is_zero a && is_zero b || is_infinite a && is_infinite b) ≡ false) where
       pub divide_by_zero : (is_finite a && not (is_zero a) && is_zero b) ≡ true → {h : ℕ} → h ≡ infinity (unlike a b)
-          → result h ZE ≡ half_divide mode unmasked_ue a b
+          → outcome h ZE ≡ half_divide mode unmasked_ue a b
       unfolding half_divide
       divide_by_zero z h = rw (n, v, z, ← h)
 
       module _ (z : (is_finite a && not (is_zero a) && is_zero b) ≡ false) {de h : ℕ} (d : de ≡ flag DE (some is_subnormal (a ∷ b ∷ b ∷ [])))
         where
-          pub divide_infinite : is_infinite a ≡ true → h ≡ infinity (unlike a b) → result h de ≡ half_divide mode unmasked_ue a b
+          pub divide_infinite : is_infinite a ≡ true → h ≡ infinity (unlike a b) → outcome h de ≡ half_divide mode unmasked_ue a b
           unfolding half_divide
           divide_infinite i e = rw (n, v, z, i, or_zero_r, two_denormals a b d, ← e)
 
           pub divide_by_infinite : is_infinite a ≡ false → is_infinite b ≡ true → h ≡ with_sign (unlike a b) 0
-              → result h de ≡ half_divide mode unmasked_ue a b
+              → outcome h de ≡ half_divide mode unmasked_ue a b
           unfolding half_divide
           divide_by_infinite i j e = rw (n, v, z, i, j, or_zero_r, two_denormals a b d, ← e)
 
@@ -190,7 +190,7 @@ module _ (a : ℕ) (mode : Mode) (unmasked_ue : Bool) where
     root_invalid i h = rw (n, i) h
 
     pub root_itself : (negative a && not (is_zero a)) ≡ false → (is_zero a || is_infinite a) ≡ true → {de : ℕ}
-        → de ≡ flag DE (some is_subnormal (a ∷ a ∷ a ∷ [])) → result a de ≡ half_root mode unmasked_ue a
+        → de ≡ flag DE (some is_subnormal (a ∷ a ∷ a ∷ [])) → outcome a de ≡ half_root mode unmasked_ue a
     unfolding half_root
     root_itself v i d = rw (n, v, i, or_zero_r, ← again (is_subnormal a), two_denormals a a d)
 
@@ -227,11 +227,11 @@ module _ (a b c : ℕ) (mode : Mode) (unmasked_ue : Bool) where
       module _ (w : ((is_infinite a || is_infinite b) && is_infinite c && not (beq (unlike a b) (negative c))) ≡ false) {de : ℕ}
           (d : de ≡ flag DE (some is_subnormal (a ∷ b ∷ c ∷ []))) where
         pub fused_infinite : (is_infinite a || is_infinite b) ≡ true → {h : ℕ} → h ≡ infinity (unlike a b)
-            → result h de ≡ half_multiply_add mode unmasked_ue a b c
+            → outcome h de ≡ half_multiply_add mode unmasked_ue a b c
         unfolding half_multiply_add
         fused_infinite i h = rw (n, v, w, i, or_zero_r, ← d, ← h)
 
         pub fused_addend : (is_infinite a || is_infinite b) ≡ false → is_infinite c ≡ true
-            → result c de ≡ half_multiply_add mode unmasked_ue a b c
+            → outcome c de ≡ half_multiply_add mode unmasked_ue a b c
         unfolding half_multiply_add
         fused_addend i j = rw (n, v, w, i, j, or_zero_r, ← d)

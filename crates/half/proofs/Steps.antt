@@ -10,7 +10,7 @@ use lib.Ieee.{size, nearest}
 use borrow.Author.Tests.{le-leb, lt-leb, le-ltb, lt-ltb, ltb-true, ltb-false, leb-true, leb-false, eqb-true, eqb-false}
 use Rattle.half.specs.Format.{with_sign}
 use Rattle.half.specs.Exact.{ratio, against, is_nearest, outward, ceiling, round_to}
-use Rattle.half.specs.Round.{OE, UE, PE, flag, result, tiny, overflow_fields, rounded_half}
+use Rattle.half.specs.Round.{OE, UE, PE, flag, outcome, tiny, overflow_fields, rounded_half}
 use Rattle.half.specs.Work.{place}
 use Rattle.half.specs.declared.Mode.{Mode}
 use Rattle.half.specs.declared.Outcome.{Outcome}
@@ -103,14 +103,14 @@ module _ (mode : Mode) (neg : Bool) (t : ℕ) where
 -- ---- to a half
 module _ (mode : Mode) (unmasked_ue neg : Bool) (t k z q : ℕ) (hk : k ≡ size t - 14) (hz : z ≡ place t (2 ^ (k + 2)))
     (hq : q ≡ steps mode neg z) where
-  pub over : 31744 ≤ k * 1024 + q → {o : Outcome} → o ≡ result (with_sign neg (overflow_fields mode neg)) (bit_or OE PE)
+  pub over : 31744 ≤ k * 1024 + q → {o : Outcome} → o ≡ outcome (with_sign neg (overflow_fields mode neg)) (bit_or OE PE)
       → o ≡ rounded_half mode unmasked_ue neg (ratio t (2 ^ 27))
   unfolding coarse
   over g ho = ho ∙ sym (of_place mode unmasked_ue neg t ∙ rw (← hk, ← hz, ← hq, le-leb 31744 (k * 1024 + q) g))
 
   pub fit : k * 1024 + q < 31744 → {b : Bool} {h pe ue : ℕ} → b ≡ tiny mode neg (ratio t (2 ^ 27)) → h ≡ with_sign neg (k * 1024 + q)
       → pe ≡ flag PE (not (eqb (z % 4) 0))
-      → ue ≡ flag UE (b && (unmasked_ue || not (eqb (z % 4) 0))) → result h (bit_or pe ue) ≡ rounded_half mode unmasked_ue neg
+      → ue ≡ flag UE (b && (unmasked_ue || not (eqb (z % 4) 0))) → outcome h (bit_or pe ue) ≡ rounded_half mode unmasked_ue neg
       (ratio t (2 ^ 27))
   unfolding coarse
   fit g hb hh hp hu =
@@ -118,7 +118,7 @@ module _ (mode : Mode) (unmasked_ue neg : Bool) (t k z q : ℕ) (hk : k ≡ size
       sym (of_place mode unmasked_ue neg t ∙ rw (← hk, ← hz, ← hq, lt-leb 31744 (k * 1024 + q) g, ← hh, ← hp, ← b, ← hu))
 
 -- ---- zero
-pub zero_rounds : (mode : Mode) (unmasked_ue neg : Bool) → result (with_sign neg 0) 0 ≡ rounded_half mode unmasked_ue neg (ratio 0 (2 ^ 27))
+pub zero_rounds : (mode : Mode) (unmasked_ue neg : Bool) → outcome (with_sign neg 0) 0 ≡ rounded_half mode unmasked_ue neg (ratio 0 (2 ^ 27))
 unfolding place size
 zero_rounds mode unmasked_ue neg =
     let q : steps mode neg 0 ≡ 0 = round_to_exact mode neg (ratio 0 4) 1 1 (omega arith) (omega arith) 0 (omega arith) in

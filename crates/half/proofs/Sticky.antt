@@ -12,7 +12,7 @@ use lib.Ieee.{size}
 use borrow.Author.Tests.{lt-ltb, le-ltb, le-leb, ltb-true, ltb-false}
 use Rattle.half.specs.Format.{with_sign}
 use Rattle.half.specs.Exact.{Magnitude, ratio, denominator, against}
-use Rattle.half.specs.Round.{OE, PE, result, overflow_fields, rounded_half}
+use Rattle.half.specs.Round.{OE, PE, outcome, overflow_fields, rounded_half}
 use Rattle.half.specs.Operations.{exact_sum}
 use Rattle.half.specs.Work.{place}
 use Rattle.half.specs.declared.Mode.{Mode}
@@ -68,7 +68,7 @@ module _ (mode : Mode) (unmasked_ue neg : Bool) where
 
   -- a quotient of 2 ^ 20 or more overflows
   pub far_too_large : (x y : ℕ) → 0 < y → y ≤ x / 2 ^ 20
-      → rounded_half mode unmasked_ue neg (ratio x y) ≡ result (with_sign neg (overflow_fields mode neg)) (bit_or OE PE)
+      → rounded_half mode unmasked_ue neg (ratio x y) ≡ outcome (with_sign neg (overflow_fields mode neg)) (bit_or OE PE)
   unfolding coarse
   far_too_large x y hy g =
       let l : y * 2 ^ 20 ≤ x = (le-div_iff_mul-le {k = 2 ^ 20} {x = y} {y = x} (omega arith)).0 g in

@@ -11,7 +11,7 @@ use lib.Pow.{pow_pos, pow_mono}
 use borrow.Author.Tests.{lt-ltb, le-ltb, ltb-true, ltb-false, leb-true, leb-false}
 use Rattle.half.specs.Format.{exponent_field, significand, is_subnormal, negative, with_sign, units}
 use Rattle.half.specs.Exact.{ratio}
-use Rattle.half.specs.Round.{DE, flag, result, rounded_half}
+use Rattle.half.specs.Round.{DE, flag, outcome, rounded_half}
 use Rattle.lists.specs.Lists.{some}
 use Rattle.half.specs.Operations.{cancelled, with_denormals, unlike, exact_sum, half_add, half_multiply_add}
 use Rattle.half.specs.Work.{place, is_normal, sum_magnitude, sum_sign, Summed}
@@ -65,12 +65,12 @@ module _ (mode : Mode) (unmasked_ue sx : Bool) (x : ℕ) (sy : Bool) (y k : ℕ)
   nothing n e = rw (e, zero-div (2 ^ k), zero-mod (2 ^ k)) refl
 
   pub no_sum : m ≡ 0 → {h : ℕ} → h ≡ cond (beq sx sy) (with_sign sx 0) (cancelled mode)
-      → result h 0 ≡ exact_sum mode unmasked_ue sx x sy y (2 ^ (k + 26))
+      → outcome h 0 ≡ exact_sum mode unmasked_ue sx x sy y (2 ^ (k + 26))
   unfolding exact_sum
   no_sum z {h} hh = go (beq sx sy) (ltb x y) refl refl hm hh
     where
       go : (l b : Bool) → beq sx sy ≡ l → ltb x y ≡ b → m ≡ cond l (x + y) (cond b (y - x) (x - y))
-          → h ≡ cond l (with_sign sx 0) (cancelled mode) → result h 0 ≡ exact_sum mode unmasked_ue sx x sy y (2 ^ (k + 26))
+          → h ≡ cond l (with_sign sx 0) (cancelled mode) → outcome h 0 ≡ exact_sum mode unmasked_ue sx x sy y (2 ^ (k + 26))
       go true b p q em eh = rw (p, eh) (at (x + y) sx (nothing (x + y) (sym em ∙ z)) (zero_rounds mode unmasked_ue sx))
       go false true p q em eh = let l : x < y = ltb-true _ _ q in absurd (let f : y - x ≡ 0 = sym em ∙ z in omega arith)
       go false false p q em eh =
@@ -85,7 +85,7 @@ module _ (mode : Mode) (unmasked_ue sx : Bool) (x : ℕ) (sy : Bool) (y k : ℕ)
 
 -- ---- the DE of two operands, of which the code hands the last in again, beside what follows
 pub beside : (a b : ℕ) {f : ℕ} {o r q : Outcome} → f ≡ flag DE (some is_subnormal (a ∷ b ∷ b ∷ []))
-    → r ≡ result o.half (bit_or f o.flags) → o ≡ q → r ≡ with_denormals (a ∷ b ∷ []) q
+    → r ≡ outcome o.half (bit_or f o.flags) → o ≡ q → r ≡ with_denormals (a ∷ b ∷ []) q
 beside a b hf hr ho = rw (← ho, ← again (is_subnormal b), ← hf) hr
 
 -- ---- a + b in units of 2 ^ -27

@@ -3,7 +3,7 @@ use Rattle.std.specs.Prelude.{ℕ, ◌%◌, Bool, true, false, ◌||◌, cond, L
 use Rattle.std.specs.Int.Signed.{lt_z}
 use Rattle.lists.specs.Lists.{some}
 use Rattle.half.specs.Format.{is_nan, is_signalling, is_subnormal, value}
-use Rattle.half.specs.Round.{IE, DE, flag, result}
+use Rattle.half.specs.Round.{IE, DE, flag, outcome}
 use Rattle.half.specs.declared.Outcome.{Outcome}
 use Rattle.half.specs.declared.comparison.Predicate.{Predicate}
 
@@ -43,10 +43,10 @@ comparison_flags invalid a b = cond (some is_nan (a ∷ b ∷ [])) (flag IE inva
 
 -- R6.26, R6.27: minimum and maximum, of which any NaN is invalid
 unfoldable pub half_minimum : ℕ → ℕ → Outcome
-half_minimum a b = result (lesser (relation a b) a b) (comparison_flags true a b)
+half_minimum a b = outcome (lesser (relation a b) a b) (comparison_flags true a b)
 
 unfoldable pub half_maximum : ℕ → ℕ → Outcome
-half_maximum a b = result (larger (relation a b) a b) (comparison_flags true a b)
+half_maximum a b = outcome (larger (relation a b) a b) (comparison_flags true a b)
 
 -- ---- R6.28: the predicates
 
@@ -118,4 +118,4 @@ predicate_of immediate = get_or predicates (immediate % 32) (predicate no no no 
 unfoldable pub half_compare : ℕ → ℕ → ℕ → Outcome
 half_compare immediate a b =
     let p : Predicate = predicate_of immediate in
-    result (cond (holds p (relation a b)) 1 0) (comparison_flags (some is_signalling (a ∷ b ∷ []) || p.signals) a b)
+    outcome (cond (holds p (relation a b)) 1 0) (comparison_flags (some is_signalling (a ∷ b ∷ []) || p.signals) a b)

@@ -6,7 +6,7 @@ use Rattle.lists.specs.Lists.{some}
 use Rattle.half.specs.Format.{negative, is_finite, is_infinite, is_nan, is_signalling, is_zero, is_subnormal, units, with_sign, infinity}
 use Rattle.half.specs.Format.{negated, quiet}
 use Rattle.half.specs.Exact.{ratio, root_of}
-use Rattle.half.specs.Round.{IE, DE, ZE, flag, result, rounded_half}
+use Rattle.half.specs.Round.{IE, DE, ZE, flag, outcome, rounded_half}
 use Rattle.half.specs.declared.Mode.{Mode}
 use Rattle.half.specs.declared.Mode.TheVariants.{Nearest, Down, Up, TowardZero}
 use Rattle.half.specs.declared.Outcome.{Outcome}
@@ -20,22 +20,22 @@ first_nan (h ∷ hs) = cond (is_nan h) h (first_nan hs)
 
 -- R6.6: the first NaN made quiet, and IE for a signalling one, wherever it stands
 abbrev pub nan_result : List ℕ → Outcome
-nan_result hs = result (quiet (first_nan hs)) (flag IE (some is_signalling hs))
+nan_result hs = outcome (quiet (first_nan hs)) (flag IE (some is_signalling hs))
 
 abbrev pub unless_nan : List ℕ → Outcome → Outcome
 unless_nan hs o = cond (some is_nan hs) (nan_result hs) o
 
 -- R6.7: no number
 abbrev pub invalid : Outcome
-invalid = result 0xFE00 IE
+invalid = outcome 0xFE00 IE
 
 -- R6.9: DE, added to the other flags, if some operand is subnormal
 abbrev pub with_denormals : List ℕ → Outcome → Outcome
-with_denormals hs o = result o.half (bit_or (flag DE (some is_subnormal hs)) o.flags)
+with_denormals hs o = outcome o.half (bit_or (flag DE (some is_subnormal hs)) o.flags)
 
 -- R6.5: an infinity (R6.10) or a zero (R6.10, R6.12, R6.14) that is exact, without a flag of its own
 abbrev pub exactly : ℕ → Outcome
-exactly h = result h 0
+exactly h = outcome h 0
 
 -- R6.11: the operands have unlike signs
 abbrev pub unlike : ℕ → ℕ → Bool
@@ -86,7 +86,7 @@ unfoldable pub half_divide : Mode → Bool → ℕ → ℕ → Outcome
 half_divide mode unmasked_ue a b =
     unless_nan (a ∷ b ∷ [])
     (cond (is_zero a && is_zero b || is_infinite a && is_infinite b) invalid
-    (cond (is_finite a && not (is_zero a) && is_zero b) (result (infinity (unlike a b)) ZE)
+    (cond (is_finite a && not (is_zero a) && is_zero b) (outcome (infinity (unlike a b)) ZE)
     (with_denormals (a ∷ b ∷ [])
     (cond (is_infinite a) (exactly (infinity (unlike a b)))
     (cond (is_infinite b) (exactly (with_sign (unlike a b) 0))

@@ -33,8 +33,8 @@ abbrev pub flag : ℕ → Bool → ℕ
 flag f raised = cond raised f 0
 
 -- R6.5: a half and its flags
-abbrev pub result : ℕ → ℕ → Outcome
-result h f = record { half = h; flags = f }
+abbrev pub outcome : ℕ → ℕ → Outcome
+outcome h f = record { half = h; flags = f }
 
 -- ---- R6.18, R6.19: two roundings to 11 significant bits
 
@@ -83,11 +83,11 @@ encode n = let s = size n - 11 in s * 1024 + n / 2 ^ s
 abbrev pub overflow_fields : Mode → Bool → ℕ
 overflow_fields mode neg = cond (is_nearest mode || outward mode neg) 0x7C00 0x7BFF
 
--- R6.20, R6.23: the half and its flags. R6.24: it has the sign of the exact result, also where it is a zero.
+-- R6.20, R6.23: the half and its flags. R6.24: it has the sign of the exact outcome, also where it is a zero.
 unfoldable pub rounded_half : Mode → Bool → Bool → Magnitude → Outcome
 rounded_half mode unmasked_ue neg x =
     -- R6.20
-    cond (overflows mode neg x) (result (with_sign neg (overflow_fields mode neg)) (bit_or OE PE))
+    cond (overflows mode neg x) (outcome (with_sign neg (overflow_fields mode neg)) (bit_or OE PE))
     -- R6.18; R6.22, R6.23
-    (result (with_sign neg (encode (delivered mode neg x)))
+    (outcome (with_sign neg (encode (delivered mode neg x)))
     (bit_or (flag PE (inexact mode neg x)) (flag UE (tiny mode neg x && (unmasked_ue || inexact mode neg x)))))

@@ -2,7 +2,7 @@
 -- (crate machine, specs/Rows.antt).
 use Rattle.std.specs.Prelude.{ℕ, Bool, true, false, List, [], ◌∷◌}
 use Rattle.std.specs.Int.Bits.{bit_or}
-use Rattle.half.specs.Round.{IE, DE, ZE, OE, UE, PE, result}
+use Rattle.half.specs.Round.{IE, DE, ZE, OE, UE, PE, outcome}
 use Rattle.half.specs.Operations.{half_add, half_multiply, half_divide, half_root, half_multiply_add}
 use Rattle.half.specs.declared.Mode.{Mode}
 use Rattle.half.specs.declared.Mode.TheVariants.{Nearest, Down, Up, TowardZero}
@@ -24,7 +24,7 @@ pub record Row : Type 0 where
   pub gives : Outcome
 
 abbrev pub row : Operation → Mode → Bool → ℕ → ℕ → ℕ → ℕ → ℕ → Row
-row o m u a b c h f = record { op = o; mode = m; unmasked_ue = u; a = a; b = b; c = c; gives = result h f }
+row o m u a b c h f = record { op = o; mode = m; unmasked_ue = u; a = a; b = b; c = c; gives = outcome h f }
 
 -- The table. A row has the operation, the mode, whether UE is unmasked, three operands, the half and the flags.
 unfoldable pub starred : List Row

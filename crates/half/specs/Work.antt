@@ -7,7 +7,7 @@ use Rattle.std.proofs.Math.IntN.{sub_ℕ}
 use Rattle.lists.specs.Lists.{some}
 use Rattle.half.specs.Format.{negative, exponent_field, is_signalling, units}
 use Rattle.half.specs.Exact.{root_from}
-use Rattle.half.specs.Round.{result}
+use Rattle.half.specs.Round.{outcome}
 use Rattle.half.specs.Comparison.{relation, comparison_flags, holds}
 use Rattle.half.specs.declared.Outcome.{Outcome}
 use Rattle.half.specs.declared.comparison.Predicate.{Predicate}
@@ -61,4 +61,4 @@ rank_of h = cond (negative h) (2 ^ 15 - h % 2 ^ 15) (2 ^ 15 + h % 2 ^ 15)
 abbrev pub picked : Predicate → Bool → ℕ → ℕ → Outcome
 picked p compares a b =
     let yes : Bool = holds p (relation a b) in
-    result (cond compares (cond yes 1 0) (cond yes a b)) (comparison_flags (some is_signalling (a ∷ b ∷ []) || p.signals) a b)
+    outcome (cond compares (cond yes 1 0) (cond yes a b)) (comparison_flags (some is_signalling (a ∷ b ∷ []) || p.signals) a b)

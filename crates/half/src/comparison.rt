@@ -10,7 +10,7 @@ ghost use Rattle.half.specs.Work.{rank_of, picked};
 use super::{DE, IE, Outcome, fields, operands};
 
 // What a predicate answers to each relation (R6.25), and whether it signals a quiet NaN.
-#[derive(Drop)]
+#[derive(Clone, Copy)]
 pub struct Predicate {
     pub less: bool,
     pub equal: bool,

@@ -1,5 +1,7 @@
 // IEEE 754 binary16 arithmetic: six operations, each rounded once, with its six flags (docs/RULES.md, R6.1 to R6.24); minimum, maximum
 // and comparison (R6.25 to R6.28).
+#![tactic(auto)]
+
 ghost use Rattle.std.specs.Prelude.{◌≡◌};
 ghost use Rattle.half.specs.Modes.{mode_of_bits};
 
@@ -15,7 +17,7 @@ mod rounding;
 pub mod sum;
 
 // The rounding modes (R6.4), in the order of their numbers.
-#[derive(Drop)]
+#[derive(Clone, Copy)]
 pub enum Mode {
     Nearest,
     Down,
@@ -51,7 +53,7 @@ const UE: u8 = 16;
 const PE: u8 = 32;
 
 // What an operation hands back: a half, and its flags or-ed.
-#[derive(Drop)]
+#[derive(Clone, Copy)]
 pub struct Outcome {
     pub half: u16,
     pub flags: u8,

@@ -10,7 +10,7 @@ ghost use Rattle.half.specs.Work.{is_normal};
 use super::{Mode, Outcome, PE, fields, operands, rounding};
 
 // An exact sum: its sign and its magnitude, digits * 2^exponent.
-#[derive(Drop)]
+#[derive(Clone, Copy)]
 pub struct Sum {
     pub neg: bool,
     pub digits: u64,

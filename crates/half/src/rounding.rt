@@ -5,13 +5,13 @@ ghost use Rattle.std.specs.Int.Bits.{bit_or};
 ghost use Rattle.std.specs.Float.Ieee.{size};
 ghost use Rattle.half.specs.Format.{with_sign};
 ghost use Rattle.half.specs.Exact.{ratio, is_nearest, outward, round_to};
-ghost use Rattle.half.specs.Round.{OE, PE, result, tiny, overflow_fields, rounded_half};
+ghost use Rattle.half.specs.Round.{OE, PE, outcome, tiny, overflow_fields, rounded_half};
 ghost use Rattle.half.specs.Work.{place};
 
 use super::{Mode, OE, Outcome, PE, UE, fields, operands};
 
 fn is_nearest(mode: Mode) -> bool
-    ensures* { λ r. ⌜ r ≡ is_nearest mode ⌝ }
+    ensures { result ≡ is_nearest mode }
 {
     match mode {
         Mode::Nearest => true,
@@ -23,7 +23,7 @@ fn is_nearest(mode: Mode) -> bool
 
 // The mode leads away from zero for a negative number.
 fn is_down(mode: Mode) -> bool
-    ensures* { λ r. ⌜ r ≡ outward mode true ⌝ }
+    ensures { result ≡ outward mode true }
 {
     match mode {
         Mode::Nearest => false,
@@ -35,7 +35,7 @@ fn is_down(mode: Mode) -> bool
 
 // The mode leads away from zero for a positive number.
 fn is_up(mode: Mode) -> bool
-    ensures* { λ r. ⌜ r ≡ outward mode false ⌝ }
+    ensures { result ≡ outward mode false }
 {
     match mode {
         Mode::Nearest => false,
@@ -47,7 +47,7 @@ fn is_up(mode: Mode) -> bool
 
 // One match of four would be a jump by the mode, which no processor foresees; two tests are none.
 fn leads_outward(mode: Mode, neg: bool) -> bool
-    ensures* { λ r. ⌜ r ≡ outward mode neg ⌝ }
+    ensures { result ≡ outward mode neg }
 {
     let down = is_down(mode);
     let up = is_up(mode);
@@ -57,7 +57,7 @@ fn leads_outward(mode: Mode, neg: bool) -> bool
 // What is added to z before it is divided by 4, to carry where the mode goes up; odd is z / 4 % 2.
 fn carry(nearest: bool, outward: bool, odd: u64) -> u64
     requires { odd < 2 }
-    ensures* { λ r. ⌜ r ≡ cond nearest (1 + odd) (cond outward 3 0) ⌝ }
+    ensures { result ≡ cond nearest (1 + odd) (cond outward 3 0) }
 {
     if nearest {
         return 1 + odd;
@@ -71,14 +71,14 @@ fn carry(nearest: bool, outward: bool, odd: u64) -> u64
 // z / 4 rounded to a whole number.
 pub fn whole_steps(mode: Mode, neg: bool, z: u64) -> u64
     requires { z < 2 ^ 63 }
-    ensures* { λ r. ⌜ r ≡ round_to mode neg (ratio z 4) 1 1 ⌝ }
+    ensures { result ≡ round_to mode neg (ratio z 4) 1 1 }
 {
     let outward = leads_outward(mode, neg);
     (z + carry(is_nearest(mode), outward, z / 4 % 2)) / 4
 }
 
 fn overflow_fields(mode: Mode, neg: bool) -> u16
-    ensures* { λ r. ⌜ r ≡ overflow_fields mode neg ⌝ }
+    ensures { result ≡ overflow_fields mode neg }
 {
     if is_nearest(mode) | leads_outward(mode, neg) {
         return 0x7C00;
@@ -88,7 +88,7 @@ fn overflow_fields(mode: Mode, neg: bool) -> u16
 
 // R6.20: what a magnitude gives that is too large.
 pub fn overflow(mode: Mode, neg: bool) -> Outcome
-    ensures* { λ r. ⌜ r ≡ result (with_sign neg (overflow_fields mode neg)) (bit_or OE PE) ⌝ }
+    ensures { result ≡ outcome (with_sign neg (overflow_fields mode neg)) (bit_or OE PE) }
 {
     let m = overflow_fields(mode, neg);
     Outcome {
@@ -100,7 +100,7 @@ pub fn overflow(mode: Mode, neg: bool) -> Outcome
 // The place of t / 2^k.
 pub fn place_of(t: u64, k: u32) -> u64
     requires { (1 ≤ k) × (k < 64) }
-    ensures* { λ r. ⌜ r ≡ place t (2 ^ k) ⌝ }
+    ensures { result ≡ place t (2 ^ k) }
 {
     let q = t >> k;
     if q << k == t { 2 * q } else { 2 * q + 1 }
@@ -108,7 +108,7 @@ pub fn place_of(t: u64, k: u32) -> u64
 
 // How many digits t has above 14.
 fn dropped(t: u64) -> u32
-    ensures* { λ r. ⌜ r ≡ size t - 14 ⌝ }
+    ensures { result ≡ size t - 14 }
 {
     let zeros = u64::leading_zeros(t);
     if zeros < 50 { 50 - zeros } else { 0 }
@@ -117,7 +117,7 @@ fn dropped(t: u64) -> u32
 // R6.21: t / 2^27 is tiny. 2^-14 is 8192 of these, and just below it the steps of 11 bits are 4. The last step, from 8188 on, is the odd
 // 2047: what is carried into the next leads to 2^-14.
 fn is_tiny(mode: Mode, neg: bool, t: u64) -> bool
-    ensures* { λ r. ⌜ r ≡ tiny mode neg (ratio t (2 ^ 27)) ⌝ }
+    ensures { result ≡ tiny mode neg (ratio t (2 ^ 27)) }
 {
     let outward = leads_outward(mode, neg);
     (t != 0) & (t < 8192 - carry(is_nearest(mode), outward, 1))
@@ -125,7 +125,7 @@ fn is_tiny(mode: Mode, neg: bool, t: u64) -> bool
 
 // t / 2^27 rounded.
 pub fn round(mode: Mode, unmasked_ue: bool, neg: bool, t: u64) -> Outcome
-    ensures* { λ r. ⌜ r ≡ rounded_half mode unmasked_ue neg (ratio t (2 ^ 27)) ⌝ }
+    ensures { result ≡ rounded_half mode unmasked_ue neg (ratio t (2 ^ 27)) }
 {
     let k = dropped(t);
     let z = place_of(t, k + 2);

@@ -12,7 +12,7 @@ use lib.Ieee.{size}
 use borrow.Author.Tests.{lt-leb, leb-true, leb-false, ltb-true, ltb-false}
 use Rattle.half.specs.Format.{with_sign, units}
 use Rattle.half.specs.Exact.{Magnitude, denominator, whole, is_nearest, outward, round_to}
-use Rattle.half.specs.Round.{OE, UE, PE, flag, result}
+use Rattle.half.specs.Round.{OE, UE, PE, flag, outcome}
 use Rattle.half.specs.Round.{significant, delivered, overflows, tiny, inexact, encode, overflow_fields, rounded_half}
 use Rattle.half.specs.declared.Mode.{Mode}
 use Rattle.half.specs.declared.Outcome.{Outcome}
@@ -93,7 +93,7 @@ module _ (mode : Mode) (neg : Bool) (x : Magnitude) (hd : 0 < denominator x) whe
     below_top = leb-false (2 ^ 40) D (sym overflows_is ∙ fits)
 
     pub rounded_is : (unmasked_ue : Bool) → rounded_half mode unmasked_ue neg x
-        ≡ result (with_sign neg (encode D))
+        ≡ outcome (with_sign neg (encode D))
         (bit_or (flag PE (inexact mode neg x)) (flag UE (tiny mode neg x && (unmasked_ue || inexact mode neg x))))
     unfolding rounded_half
     rounded_is unmasked_ue = rw fits
@@ -149,7 +149,7 @@ underflow_flag mode unmasked_ue neg x e = rw e (go (inexact mode neg x) (tiny mo
 -- ---- with overflow
 
 pub over_is : (mode : Mode) (unmasked_ue neg : Bool) (x : Magnitude) → overflows mode neg x ≡ true
-    → rounded_half mode unmasked_ue neg x ≡ result (with_sign neg (overflow_fields mode neg)) (bit_or OE PE)
+    → rounded_half mode unmasked_ue neg x ≡ outcome (with_sign neg (overflow_fields mode neg)) (bit_or OE PE)
 unfolding rounded_half
 over_is mode unmasked_ue neg x e = rw e
 

@@ -10,7 +10,7 @@ use lib.IntN.{ℤ, pos, neg_ℤ, nat_abs, ◌+ℤ◌, ◌*ℤ◌, neg_ℤ-neg_�
 use borrow.Author.Tests.{ltb-true, ltb-false}
 use Rattle.half.specs.Format.{is_finite, is_subnormal, negative, negated, with_sign, units, signed, value}
 use Rattle.half.specs.Exact.{ratio}
-use Rattle.half.specs.Round.{result, rounded_half}
+use Rattle.half.specs.Round.{outcome, rounded_half}
 use Rattle.half.specs.Work.{place}
 use Rattle.half.specs.Operations.{cancelled, exactly, exact_sum}
 use Rattle.half.specs.declared.Mode.{Mode}
@@ -89,7 +89,7 @@ module _ (mode : Mode) (unmasked_ue : Bool) (d : ℕ) (hd : 0 < d) where
   any_sign : (s z : Bool) (n : ℕ) → 0 < n → number (signed s n) z ≡ rounded_half mode unmasked_ue s (ratio n d)
   any_sign s z n h = rw (sign_above s z n h, abs_signed s n)
 
-  zero_number : (z : Bool) → number (pos 0) z ≡ result (with_sign z 0) 0
+  zero_number : (z : Bool) → number (pos 0) z ≡ outcome (with_sign z 0) 0
   unfolding place
   zero_number z = sym (placed_ratio mode unmasked_ue z 0 d hd (rw (zero-div d, zero-mod d)) (zero_rounds mode unmasked_ue z))
 

@@ -1,1 +1,2 @@
 // No code: the laws are stated in specs/ and proved in proofs/.
+#![tactic(auto)]

@@ -1,4 +1,6 @@
 // Standard input, for the programs, which take no input that was cut short (R10.7). No contract can say what is read.
+#![tactic(auto)]
+
 ghost use Rattle.std.specs.Prelude.{◌+◌, ◌≤◌, length};
 
 // How many bytes came, and whether a read failed.

@@ -8,7 +8,7 @@ use evex::{Instruction, Rounding};
 use half::Mode;
 use machine::Environment;
 
-#[derive(Drop)]
+#[derive(Clone, Copy)]
 pub struct Control {
     pub bits: u32,
 }

@@ -1,4 +1,6 @@
 // The arithmetic of the lanes (R2.1): 32 results by value, and all flags or-ed (R7.1).
+#![tactic(auto)]
+
 ghost use Rattle.std.specs.Prelude.{◌≡◌, cond, get_or};
 ghost use Rattle.evex.specs.Bits.{is_set};
 ghost use Rattle.machine.specs.Lanes.{rounded, operated};
@@ -29,7 +31,7 @@ struct Lanes {
 }
 
 // The lanes that are on, one by one; or all 32 at once, by what a predicate picks, in vector instructions.
-#[derive(Drop)]
+#[derive(Clone, Copy)]
 enum Way {
     OneByOne,
     AllAtOnce {

@@ -3,7 +3,7 @@
 -- Assumes nothing.
 use Prim.Native.Nat.{ℕ, ◌+◌, ◌*◌, ◌%◌, ◌^◌, ◌<◌, ◌≤◌}
 use mathlib.Core.Path.{◌≡◌, refl, sym, ap, ◌∙◌}
-use mathlib.Core.Bool.{Bool, true, false, ◌||◌, ◌&&◌, true≢false, or_false, and_false}
+use mathlib.Core.Bool.{Bool, true, false, ◌||◌, ◌&&◌, true≢false, or-false, and-false}
 use mathlib.Core.List.{List, [], ◌∷◌}
 use native.Mathlib.Decide.{dec_lt, le_ind}
 use native.Mathlib.Numerals.{add-one}
@@ -120,12 +120,12 @@ module _ {n : ℕ} {p : ℕ → Bool} {x : Bool} {j : ℕ} (F : Found n p x j) w
   found_all rest =
       F.is
       ∙ sym (stays (λ (i : ℕ). some p (table i (λ k. k))) j n F.within
-      (λ i k. some_next p i (λ k. k) ∙ rw (rest i k, or_false (some p (table i (λ k. k))))))
+      (λ i k. some_next p i (λ k. k) ∙ rw (rest i k, or-false (some p (table i (λ k. k))))))
 
 -- a test that no index can pass
 pub nowhere_off : (p : ℕ → Bool) (l : List ℕ) → some (λ j. p j && false) l ≡ false
 nowhere_off p [] = refl
-nowhere_off p (j ∷ l) = rw (and_false (p j)) (nowhere_off p l)
+nowhere_off p (j ∷ l) = rw (and-false (p j)) (nowhere_off p l)
 
 -- where none was found, the test held of no index
 pub nowhere : (p : ℕ → Bool) (n j : ℕ) → some p (table n (λ k. k)) ≡ false → j < n → p j ≡ false

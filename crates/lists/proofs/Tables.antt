@@ -3,7 +3,7 @@
 -- Assumes nothing.
 use Prim.Native.Nat.{ℕ, zero, suc, ◌+◌, ◌*◌, ◌/◌, ◌^◌, ◌≤◌, ◌<◌}
 use mathlib.Core.Path.{◌≡◌, refl, sym, ap, ap₂, ◌∙◌}
-use mathlib.Core.Bool.{Bool, true, false, not, ◌||◌, or_true, or_false, or_assoc, false≢true}
+use mathlib.Core.Bool.{Bool, true, false, not, ◌||◌, or-true, or-false, or_assoc, false≢true}
 use mathlib.Core.Logic.{◌⊎◌, inl, inr}
 use mathlib.Core.List.Memᴰ
 use mathlib.Core.List.{List, [], ◌∷◌, ◌++◌, Memᴰ}
@@ -95,7 +95,7 @@ module _ (p : ℕ → Bool) where
     where
       go : (x ≡ y) ⊎ Memᴰ x xs → (Memᴰ x xs → some p xs ≡ true) → (p y || some p xs) ≡ true
       go (inl f) later = rw (← f, e)
-      go (inr k) later = rw (later k) (or_true (p y))
+      go (inr k) later = rw (later k) (or-true (p y))
 
   pub some_member : (xs : List ℕ) → some p xs ≡ true → (x : ℕ) × Memᴰ x xs × (p x ≡ true)
   some_member [] e = absurd (false≢true e)
@@ -111,7 +111,7 @@ module _ (p : ℕ → Bool) where
   some_append (x ∷ xs) ys = rw (some_append xs ys) (sym (or_assoc (p x) (some p xs) (some p ys)))
 
   pub some_next : (n : ℕ) (f : ℕ → ℕ) → some p (table (n + 1) f) ≡ (some p (table n f) || p (f n))
-  some_next n f = rw (table_next n f, some_append (table n f) (f n ∷ []), or_false (p (f n)))
+  some_next n f = rw (table_next n f, some_append (table n f) (f n ∷ []), or-false (p (f n)))
 
 -- ---- all or-ed
 

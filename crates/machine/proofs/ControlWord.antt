@@ -5,7 +5,7 @@ use Prim.Native.Nat.{ℕ, ◌+◌, ◌<◌, ◌≤◌, ◌^◌}
 use mathlib.Core.Path.{◌≡◌, refl, sym, ◌∙◌}
 use mathlib.Core.Logic.Iff
 use mathlib.Core.Logic.{◌↔◌, ◌≢◌, ◌⊎◌, inl, inr, ⊎_elim, ⊎_map}
-use mathlib.Core.Bool.{Bool, true, false, cond, not, ◌||◌, and-eq-true_iff, or_false, true≢false, false≢true}
+use mathlib.Core.Bool.{Bool, true, false, cond, not, ◌||◌, and-eq-true_iff, or-false, true≢false, false≢true}
 use mathlib.Core.List.{List}
 use native.Mathlib.Omega.{arith}
 use borrow.Author.Tests.{lt-ltb, ltb-true, not-true}
@@ -75,7 +75,7 @@ recorded_silent Suppressed control flags n = (none_raised flags, refl)
 
 -- nothing above the flags
 recorded_above : (r : Rounding) (control flags n : ℕ) → flags < 64 → 6 ≤ n → is_set (recorded r control flags) n ≡ is_set control n
-recorded_above Control control flags n h l = or_bit control flags n ∙ rw (bit_above flags 6 n h l) (or_false (is_set control n))
+recorded_above Control control flags n h l = or_bit control flags n ∙ rw (bit_above flags 6 n h l) (or-false (is_set control n))
 recorded_above (Embedded mode) control flags n h l = refl
 recorded_above Suppressed control flags n h l = refl
 

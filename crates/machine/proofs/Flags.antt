@@ -9,7 +9,7 @@ use lib.Bits.{bit_or, or_lt, and_le_l}
 use lib.Dec.{lit≤}
 use Rattle.half.specs.Format.{is_nan, is_signalling, is_subnormal}
 use Rattle.half.specs.Exact.{Magnitude}
-use Rattle.half.specs.Round.{IE, DE, ZE, UE, PE, flag, result, tiny, inexact, overflows, rounded_half}
+use Rattle.half.specs.Round.{IE, DE, ZE, UE, PE, flag, outcome, tiny, inexact, overflows, rounded_half}
 use Rattle.lists.specs.Lists.{some}
 use Rattle.lists.proofs.Tests.{either, either_given}
 use Rattle.lists.proofs.Tables.{or_table_below}
@@ -40,7 +40,7 @@ raised_six : (f : ℕ) (t : Bool) → f < 64 → flag f t < 64
 raised_six f true h = h
 raised_six f false h = lit≤ tt
 
-plain : {h f : ℕ} → f < 64 → Six (result h f)
+plain : {h f : ℕ} → f < 64 → Six (outcome h f)
 plain h = record { six = h }
 
 -- ---- the pieces of the operations
@@ -51,7 +51,7 @@ nan_six hs h = picked (some is_nan hs) (nan_result hs) _ (plain (raised_six IE (
 invalid_six : Six invalid
 invalid_six = plain (lit≤ tt)
 
-zero_divide_six : (h : ℕ) → Six (result h ZE)
+zero_divide_six : (h : ℕ) → Six (outcome h ZE)
 zero_divide_six h = plain (lit≤ tt)
 
 denormals_six : (hs : List ℕ) {o : Outcome} → Six o → Six (with_denormals hs o)

@@ -4,7 +4,7 @@
 use Prim.Native.Nat.{ℕ, ◌+◌, ◌-◌, ◌/◌, ◌<◌, ◌≤◌}
 use mathlib.Core.Path.{◌≡◌, refl, sym, ap, subst, ◌∙◌}
 use mathlib.Core.Logic.{◌≢◌}
-use mathlib.Core.Bool.{Bool, true, false, cond, ◌&&◌, and_false, not-eq-not}
+use mathlib.Core.Bool.{Bool, true, false, cond, ◌&&◌, and-false, not-eq-not}
 use mathlib.Core.List.{List}
 use native.Mathlib.Decide.{dec_lt}
 use native.Mathlib.Omega.{arith}
@@ -35,7 +35,7 @@ below_eight : (scalar : Bool) (x : Fill) (j : ℕ) → scalar ≡ true → j < 8
 below_eight scalar x j e h = rw (e, lt-ltb j 8 h)
 
 from_eight : (scalar : Bool) (x : Fill) (j : ℕ) → 8 ≤ j → cond (scalar && ltb j 8) x zeroed ≡ zeroed
-from_eight scalar x j h = rw (le-ltb j 8 h, and_false scalar)
+from_eight scalar x j h = rw (le-ltb j 8 h, and-false scalar)
 
 own : (accumulates : Bool) (n m : ℕ) → accumulates ≡ true → cond accumulates n m ≡ n
 own accumulates n m e = rw e

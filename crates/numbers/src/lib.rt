@@ -1,4 +1,6 @@
 // The half arithmetic for callers that have no enum, as C: a mode is a number, and one above 3 is answered 9 (R8.1 to R8.3, R8.5).
+#![tactic(auto)]
+
 ghost use Rattle.std.specs.Prelude.{◌≡◌};
 ghost use Rattle.numbers.specs.Numbers.{mode_of, yes, done, answered};
 ghost use Rattle.half.specs.Operations.{half_add, half_subtract, half_multiply, half_divide, half_root, half_multiply_add};
@@ -7,7 +9,7 @@ ghost use Rattle.half.specs.Comparison.{half_minimum, half_maximum, half_compare
 use half::{Mode, Outcome, comparison, fused, product, quotient, root, sum};
 
 // What the number of a mode says.
-#[derive(Drop)]
+#[derive(Clone, Copy)]
 enum ModeNumber {
     Means(Mode),
     Above,
@@ -15,7 +17,7 @@ enum ModeNumber {
 
 // A half and its flags, with the number of the answer: 0, or 9 for a mode above 3. In C's layout.
 #[repr(C)]
-#[derive(Drop)]
+#[derive(Clone, Copy)]
 pub struct Rounded {
     pub half: u16,
     pub flags: u8,

@@ -1,4 +1,6 @@
 // Parts of the saved form (R9.2): numbers, registers, bytes. A part is lent, so its length says how many bytes there are.
+#![tactic(auto)]
+
 ghost use Rattle.std.specs.Prelude.{◌≡◌, ◌*◌, ◌/◌, ◌%◌, ◌^◌, ◌≤◌, ◌<◌, length};
 ghost use Rattle.lists.specs.Lists.{table};
 ghost use Rattle.forms.specs.Numbers.{big, value_from, number_in, registers};

@@ -1,8 +1,9 @@
 // What the replay of a recording reports (R14.7); what it means is in specs/, and what is proved of it in proofs/. The code stands in the
 // crate `replayer`.
+#![tactic(auto)]
 
 // Items are counted from 0; `Same` has how many there are.
-#[derive(Drop)]
+#[derive(Clone, Copy)]
 pub enum Report {
     Same(usize),
     Differs(usize),
@@ -12,7 +13,7 @@ pub enum Report {
 
 // A report as C is handed it (R14.9).
 #[repr(C)]
-#[derive(Drop)]
+#[derive(Clone, Copy)]
 pub struct Reported {
     pub report: u64,
     pub item: u64,

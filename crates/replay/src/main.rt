@@ -1,5 +1,6 @@
 // The second command, from standard input to standard output (R14.10). It reads by the crate `input`; all else that it does is the crate
 // `replayer`.
+#![tactic(auto)]
 
 // One byte more than may be replayed is read, so that longer input is known.
 fn main() {

@@ -4,7 +4,7 @@ ghost use Rattle.recording.specs.Item.{code_count, memory_count};
 ghost use Rattle.replayer.specs.Work.{found};
 
 // How many bytes of code and of memory an item has; or that it is not well formed.
-#[derive(Drop)]
+#[derive(Clone, Copy)]
 pub enum Found {
     Bad,
     Item { code: usize, memory: usize },

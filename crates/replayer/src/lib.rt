@@ -1,4 +1,6 @@
 // The replay of a recording that is lent whole (R14.1 to R14.7), and its report as numbers (R14.9).
+#![tactic(auto)]
+
 ghost use Rattle.std.specs.Prelude.{◌≡◌, ◌+◌, ◌≤◌, length};
 ghost use Rattle.machine.specs.State.{state_of};
 ghost use Rattle.recording.specs.Item.{code_count, memory_count};

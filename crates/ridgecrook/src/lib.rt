@@ -1,5 +1,7 @@
 // The C entry points of include/ridgecrook.h and nothing else: each calls the proved function of its crate, and has its contract, without
 // a precondition (R8.4).
+#![tactic(auto)]
+
 ghost use Rattle.std.specs.Prelude.{◌≡◌};
 ghost use Rattle.numbers.specs.Numbers.{mode_of, yes, done, answered};
 ghost use Rattle.half.specs.Operations.{half_add, half_subtract, half_multiply, half_divide, half_root, half_multiply_add};

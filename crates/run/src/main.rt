@@ -1,4 +1,5 @@
 // The command, from standard input to standard output (R10.7). It reads by the crate `input`; all else that it does is the crate `command`.
+#![tactic(auto)]
 
 // The longest good input has 39,127 bytes, so of input that is longer than the buffer the part that is read is bad too.
 fn main() {

@@ -1,4 +1,6 @@
 // Saved forms of the machine's state (R9.1 to R9.13).
+#![tactic(auto)]
+
 ghost use Rattle.std.specs.Prelude.{◌≡◌, cond, ◌+◌, ◌^◌, ◌<◌, length};
 ghost use Rattle.lists.specs.Lists.{first_of};
 ghost use Rattle.machine.specs.State.{state_of};

@@ -2,7 +2,7 @@
 -- last lane lie inside.
 -- Assumes nothing.
 use Rattle.std.proofs.Common.{◌≡◌, ℕ, ◌+◌, ◌*◌, ◌%◌, ◌^◌, ◌<◌, ◌≤◌, Bool, true, false, cond, ◌&&◌, leb, arith, leb-false}
-use mathlib.Core.Bool.{and_false}
+use mathlib.Core.Bool.{and-false}
 use native.Mathlib.Decide.{dec_lt}
 use borrow.Author.Tests.{lt-leb}
 use Rattle.lists.specs.Lists.{some}
@@ -49,6 +49,6 @@ none_outside on length at broadcast end fits l h = found_all found_none (λ k _.
     at_each : (k : ℕ) → (is_set on k && some (λ a. leb length a) (word_bytes (word_from at broadcast k))) ≡ false
     at_each k =
         elim (dec_lt k end) [
-          | yes m ↦ rw (fine (word_from at broadcast k) (below broadcast h k m)) (and_false (is_set on k))
+          | yes m ↦ rw (fine (word_from at broadcast k) (below broadcast h k m)) (and-false (is_set on k))
           | no m ↦ let g : end ≤ k = omega arith in rw (bit_above on end k fits g)
         ]

@@ -1,5 +1,7 @@
 // The three sources (R5.3, R5.5), each as 32 halves by value. Registers are read whole, though what a lane that is off has does not count
 // (R5.2): nothing is computed from it. Memory is read only where a lane is on.
+#![tactic(auto)]
+
 ghost use Rattle.std.specs.Prelude.{◌≡◌, ◌+◌, ◌<◌, false, [], ◌∷◌, length, if◌then◌else◌};
 ghost use Rattle.lists.specs.Lists.{number_at};
 ghost use Rattle.evex.specs.Bits.{is_set};

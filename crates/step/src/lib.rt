@@ -1,4 +1,6 @@
 // One step of the machine, in the order of R4.2.
+#![tactic(auto)]
+
 ghost use Rattle.std.specs.Prelude.{◌≡◌, length};
 ghost use Rattle.evex.specs.Bits.{is_set};
 ghost use Rattle.evex.proofs.Bounds.{Bounds};

@@ -1,5 +1,7 @@
 // The destination (R5.9): the lanes that are not kept are written, with 0 where they are off; the others are left in place. Of a
 // scalar instruction it is stored in scalar.rt. Of a comparison it is a mask (R5.11).
+#![tactic(auto)]
+
 ghost use Rattle.std.specs.Prelude.{◌≡◌, ◌+◌, ◌*◌, ◌/◌, ◌%◌, ◌<◌, ◌≤◌, length, get_or, set};
 ghost use Rattle.lists.specs.Lists.{table, binary};
 ghost use Rattle.evex.specs.Bits.{is_set};

@@ -1,4 +1,6 @@
 // Texts, and numbers as text (R10.4). Each function puts its text into a lent buffer at a place, and returns the place behind it.
+#![tactic(auto)]
+
 ghost use Rattle.std.specs.Prelude.{◌≡◌, ◌+◌, ◌≤◌, ◌<◌, length};
 ghost use Rattle.text.specs.Text.{decimal, hex_digit, hex8};
 ghost use Rattle.text.specs.Put.{Put};

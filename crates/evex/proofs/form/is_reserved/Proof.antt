@@ -1,5 +1,5 @@
 -- `evex::form::is_reserved` meets its contract: form by form, in the order of the list.
-use mathlib.Core.Bool.{or_false}
+use mathlib.Core.Bool.{or-false}
 use Rattle.evex.specs.Decode.{reserved_forms}
 use borrow.Author.Rules.{rules}
 use Rattle.evex.proofs.form.is_reserved.Statement.{statement}
@@ -32,7 +32,7 @@ returns c = rw (
   c.before.before.has-scalar-broadcast.ensures,
   c.before.zeroes-mask.ensures,
   c.has-no-such-mask.ensures,
-  or_false _,
+  or-false _,
 )
 
 pub is_reserved_spec : {M : Type 1} → statement M
