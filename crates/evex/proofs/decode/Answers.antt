@@ -13,7 +13,7 @@ headed : (c : Else-has_wrong_fixed_bits)
     → Headed c.args.code.now c.of-head.result
 headed c =
     record {
-      begun = begun c.before.before.before;
+      begun = record { some = c.if-code-eq0.false; evex = c.if-code-ne98.false; six = omega arith };
       head = c.of-head.ensures;
       fixed = sym c.has_wrong_fixed_bits.ensures ∙ c.if-has_wrong_fixed_bits.false;
     }

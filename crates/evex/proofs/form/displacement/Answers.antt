@@ -9,9 +9,9 @@ pub returns-then-bytes-eq1 : goal.returns-then-bytes-eq1
 unfolding displacement_of
 returns-then-bytes-eq1 c =
     rw (
-      to_z-of_z {w = w32} {z = c.scaled.result} (record { sfits = c.scaled.type-inv }),
+      to_z-of_z {w = w32} {z = c.scaled.result} (record { sfits = c.scaled.type_inv }),
       c.scaled.ensures,
-      to_z-of_z {w = w8} {z = c.signed8.result} (record { sfits = c.signed8.type-inv }),
+      to_z-of_z {w = w8} {z = c.signed8.result} (record { sfits = c.signed8.type_inv }),
       c.signed8.ensures,
       c.byte_at.ensures,
       c.unit.ensures,
@@ -24,7 +24,7 @@ pub returns-then-bytes-eq4 : goal.returns-then-bytes-eq4
 unfolding displacement_of
 returns-then-bytes-eq4 c =
     rw (
-      to_z-of_z {w = w32} {z = c.signed32.result} (record { sfits = c.signed32.type-inv }),
+      to_z-of_z {w = w32} {z = c.signed32.result} (record { sfits = c.signed32.type_inv }),
       c.signed32.ensures,
       c.four_bytes_at.ensures,
       ← c.requires.1,

@@ -14,7 +14,7 @@ returns c =
       c.destination-destination.ensures,
       c.first-first.ensures,
       c.second-second.ensures,
-      to_z-of_z {w = w32} {z = c.displacement.result} (record { sfits = c.displacement.type-inv }),
+      to_z-of_z {w = w32} {z = c.displacement.result} (record { sfits = c.displacement.type_inv }),
       c.displacement.ensures,
       c.elements.ensures.0,
       c.has_z.ensures,
