@@ -230,7 +230,7 @@ module _ (HiddenLane HiddenByte : ℕ → Type 0) where
     runs_alike s₁ s₂ [] a unused = tt
     runs_alike s₁ s₂ (code ∷ codes) a unused =
         let o : AlikeAfter HiddenLane (step memory₁ s₁ code) (step memory₂ s₂ code) = step_alike s₁ s₂ code a unused.0 in
-        (o, runs_alike _ _ codes o.states unused.1)
+        (o, runs_alike (step memory₁ s₁ code).state (step memory₂ s₂ code).state codes o.states unused.1)
 
 pub two_runs : TwoRuns
 two_runs HiddenLane HiddenByte memory₁ memory₂ start₁ start₂ sequence memories starts unused =

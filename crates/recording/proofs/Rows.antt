@@ -33,6 +33,7 @@ use Rattle.machine.specs.Step.{
   completed,
   step,
 }
+use Rattle.forms.specs.declared.Version.{Version}
 use Rattle.forms.specs.declared.Version.TheVariants.{One, Two}
 use Rattle.forms.specs.Version.{version_of, no_version}
 use Rattle.forms.specs.Numbers.{big, value_from, joined, registers}
@@ -42,6 +43,10 @@ use Rattle.forms.specs.Saved.{size_at, wrong_size, wrong_length, wrong_file, sou
 use Rattle.recording.specs.Item.{memory_count, expected_control, expected_destination, is_bad}
 use Rattle.recording.specs.Replay.{shown, differs, replay_from, replay}
 use Rattle.recording.specs.Rows.{ReplayRows}
+
+by_version : (P : Version → Type 0) → P One → P Two → (v : Version) → P v
+by_version P one two One = one
+by_version P one two Two = two
 
 pub replay_rows : ReplayRows
 unfolding flatten table size units against whole round_to mode_of_bits significant encode rounded_half exact_sum half_add half_divide relation
@@ -57,8 +62,8 @@ unfolding flatten table size units against whole round_to mode_of_bits significa
     load_front memory_count expected_control expected_destination is_bad shown differs replay_from replay
 replay_rows =
     record {
-      none = λ v. elim v [ One ↦ refl | Two ↦ refl ];
-      four = λ v. elim v [ One ↦ refl | Two ↦ refl ];
+      none = by_version _ refl refl;
+      four = by_version _ refl refl;
       seven = refl;
       eight = refl;
       other = refl;

@@ -1,8 +1,7 @@
 -- `sources::mask::end_of` meets its contract: of 32 digits those that are no leading zeros.
-use Rattle.std.proofs.Common.{◌≡◌, ℕ, ◌+◌, ◌-◌, ◌*◌, ◌^◌, ◌<◌, ◌≤◌, refl, arith, rules}
+use Rattle.std.proofs.Common.{◌≡◌, ℕ, ◌+◌, ◌-◌, ◌*◌, ◌^◌, ◌<◌, ◌≤◌, refl, arith}
 use lib.Count.{count_leading_zeros, leading_le, leading_length}
-use Rattle.sources.proofs.mask.end_of.Statement.{statement}
-use Rattle.sources.proofs.mask.end_of.Tie as tie
+use Rattle.sources.proofs.mask.end_of.Goals as goal
 
 -- by the digits, for any number that is the difference
 ends : (lanes n : ℕ) → lanes < 2 ^ 32 → n ≡ 32 - count_leading_zeros 32 lanes → (lanes < 2 ^ n) × (n ≤ 32) × (2 ^ n ≤ 2 * lanes + 1)
@@ -11,14 +10,5 @@ ends lanes n fits e =
     let same : n ≡ length.0 = omega (arith, length.1) in
     (rw same length.2, omega arith, rw same length.3)
 
-sub-result : tie.Need-overflow-sub-result
-sub-result c = leading_le 32 _
-
-cast-result : tie.Need-overflow-cast-result
-cast-result c = search rules
-
-returns : tie.Need-returns
+pub returns : goal.returns
 returns c = ends c.args.lanes _ c.ranges.lanes.fits refl
-
-pub end_of_spec : {M : Type 1} → statement M
-end_of_spec = tie.close (tie.spec sub-result cast-result returns)
