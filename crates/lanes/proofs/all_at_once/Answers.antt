@@ -1,0 +1,17 @@
+-- `lanes::all_at_once` meets its contract: by whether all lanes are on.
+use mathlib.Core.Path.{◌∙◌}
+use Rattle.evex.specs.Bits.{is_set}
+use Rattle.lanes.proofs.AtOnce.{all_on, zeros_where_off}
+use Rattle.lanes.proofs.all_at_once.Goals as goal
+
+pub returns-then-on-eq4294967295 : goal.returns-then-on-eq4294967295
+returns-then-on-eq4294967295 c = c.whole_vector.ensures ∙ all_on c.if-on-eq4294967295.true _
+
+pub returns : goal.returns
+returns c =
+    let args = c.args in
+    zeros_where_off (is_set args.on) args.predicate args.compares args.f args.x {r = c.whole_vector-all.result}
+    {l = c.only_on-left.result}
+    (c.whole_vector-all.ensures
+    ∙ rw (c.only_on-first.ensures, c.only_on-second.ensures))
+    c.only_on-left.ensures
