@@ -16,7 +16,7 @@ use sources::mask::{end_of, has};
 pub mod control;
 
 // 0 in lanes that are off. `joined` has all of them or-ed: of a scalar instruction the one that it has, without a look into the array.
-#[derive(Drop)]
+#[derive(Clone, Copy)]
 pub struct Results {
     pub halves: [u16; 32],
     pub joined: u16,

@@ -1,0 +1,62 @@
+-- `parts::packing::put_packed` meets its contract: after i turns the word and the present ones of the first i registers are written.
+use Prim.Native.Nat.{◌-◌}
+use native.Mathlib.Omega.{arith}
+use Rattle.parts.proofs.Packed.{pack_least, says_present, word_put, next_room, one_put, all_put}
+use Rattle.parts.proofs.Loops.{lent_register, register_long}
+use Rattle.parts.proofs.packing.put_packed.Goals as goal
+
+pub slice_bounds-put_number-count : goal.slice_bounds-put_number-count
+slice_bounds-put_number-count c = omega arith
+
+pub slice_bounds-put_number-start : goal.slice_bounds-put_number-start
+slice_bounds-put_number-start c = omega arith
+
+pub slice_bounds-put_number-end : goal.slice_bounds-put_number-end
+slice_bounds-put_number-end c =
+    pack_least c.args.vectors.now c.args.part.now c.requires.0
+    c.requires.2
+
+pub loop-i-init : goal.loop-i-init
+loop-i-init c =
+    word_put c.args.vectors.now c.args.part.now c.requires.0 c.requires.2 c.requires.1
+    c.put_number.ensures
+
+pub overflow_mul-from : goal.overflow_mul-from
+overflow_mul-from c = omega arith
+
+pub overflow_add-end : goal.overflow_add-end
+overflow_add-end c = omega arith
+
+pub overflow_mul-end : goal.overflow_mul-end
+overflow_mul-end c = omega arith
+
+pub slice_bounds-put_one-count : goal.slice_bounds-put_one-count
+slice_bounds-put_one-count c = omega arith
+
+pub slice_bounds-put_one-start : goal.slice_bounds-put_one-start
+slice_bounds-put_one-start c = omega arith
+
+pub slice_bounds-put_one-end : goal.slice_bounds-put_one-end
+slice_bounds-put_one-end c = omega (arith, c.requires.0)
+
+pub put_one-at-requires : goal.put_one-at-requires
+put_one-at-requires c = (
+  omega arith,
+  register_long c.args.vectors.now c.loop-i.i c.requires.0 (omega arith),
+  says_present c.args.vectors.now c.loop-i.i (omega arith) c.requires.1
+      (lent_register c.args.vectors.now c.loop-i.i),
+  next_room c.loop-i.invariant (omega arith)
+      (lent_register c.args.vectors.now c.loop-i.i),
+)
+
+pub loop-i-smaller : goal.loop-i-smaller
+loop-i-smaller c = omega arith
+
+pub loop-i-preserved : goal.loop-i-preserved
+loop-i-preserved c =
+    let loop = c.loop-i in
+    one_put loop.invariant (omega arith) (lent_register c.args.vectors.now loop.i) c.put_one-at.ensures.0
+    c.put_one-at.ensures.1
+
+pub returns : goal.returns
+returns c = all_put c.loop-i.invariant (omega arith)
