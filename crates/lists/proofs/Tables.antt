@@ -1,7 +1,7 @@
 -- Laws of the lists that the definitions make, over any elements: `table`, `some`, `or_all`, `paste`. A loop meets a table one index at a
 -- time (`table-next`, `some_next`, `or-next`); where it has filled an array, `is-table` says what it is.
 -- Assumes nothing.
-use Prim.Native.Nat.{ℕ, zero, suc, ◌+◌, ◌*◌, ◌/◌, ◌^◌, ◌≤◌, ◌<◌}
+use Prim.Native.Nat.{ℕ, zero, suc, ◌+◌, ◌/◌, ◌^◌, ◌≤◌, ◌<◌}
 use mathlib.Core.Path.{◌≡◌, refl, sym, ap, ap₂, ◌∙◌}
 use mathlib.Core.Bool.{Bool, true, false, not, ◌||◌, or-true, or-false, or_assoc, false≢true}
 use mathlib.Core.Logic.{◌⊎◌, inl, inr}

@@ -1,8 +1,6 @@
 -- `parts::clear` meets its contract: after k turns the first k bytes are zero.
-use Prim.Native.Nat.{◌-◌}
 use mathlib.Core.Path.{sym}
 use native.Mathlib.Omega.{arith}
-use lib.ListN.{length}
 use Rattle.lists.proofs.Tables.{length-table, get_or-table}
 use Rattle.parts.proofs.Written.{nothing, kept, stored, all}
 use Rattle.parts.proofs.clear.Goals as goal

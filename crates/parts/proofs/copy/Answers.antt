@@ -1,5 +1,4 @@
 -- `parts::copy` meets its contract: after k turns the first k bytes are copied.
-use Prim.Native.Nat.{◌-◌}
 use mathlib.Core.Path.{refl, sym}
 use native.Mathlib.Omega.{arith}
 use Rattle.parts.proofs.Written.{nothing, kept, stored, all}

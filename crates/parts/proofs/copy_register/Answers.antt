@@ -1,5 +1,4 @@
 -- `parts::copy_register` meets its contract: after k turns of either loop the first k bytes are copied.
-use Prim.Native.Nat.{◌-◌}
 use mathlib.Core.Path.{refl, sym, ap, ◌∙◌}
 use native.Mathlib.Omega.{arith}
 use lib.ListN.{get_or}

@@ -1,8 +1,6 @@
 -- `parts::put_number` meets its contract: after k turns the first k bytes are those of the number.
-use Prim.Native.Nat.{◌-◌}
 use mathlib.Core.Path.{sym, ◌∙◌}
 use native.Mathlib.Omega.{arith}
-use Rattle.forms.specs.Numbers.{big}
 use Rattle.forms.proofs.Numbers.{length-big, get_or-big}
 use Rattle.parts.proofs.Written.{nothing, kept, stored, all}
 use Rattle.parts.proofs.put_number.Goals as goal

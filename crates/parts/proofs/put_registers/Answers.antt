@@ -1,8 +1,7 @@
 -- `parts::put_registers` meets its contract: after k turns the first 8 k bytes are those of the registers.
-use Prim.Native.Nat.{◌+◌, ◌-◌, ◌*◌}
+use Prim.Native.Nat.{◌+◌, ◌*◌}
 use mathlib.Core.Path.{sym, ◌∙◌}
 use native.Mathlib.Omega.{arith}
-use Rattle.forms.specs.Numbers.{registers}
 use Rattle.forms.proofs.Registers.{length-registers}
 use Rattle.parts.proofs.Turns.{at_most_eight, written_register}
 use Rattle.parts.proofs.Written.{nothing, kept, more, all}

@@ -1,5 +1,4 @@
 -- `parts::read_number` meets its contract: after k turns x is the number of the first k bytes, which fits.
-use Prim.Native.Nat.{◌-◌}
 use native.Mathlib.Omega.{arith}
 use Rattle.parts.proofs.Reading.{nothing_read, next_fits, next_read, all_read}
 use Rattle.parts.proofs.read_number.Goals as goal

@@ -1,8 +1,6 @@
 -- `parts::read_registers` meets its contract: after k turns the first k values are those that were read.
-use Prim.Native.Nat.{◌-◌}
 use mathlib.Core.Path.{◌∙◌}
 use native.Mathlib.Omega.{arith}
-use Rattle.lists.specs.Lists.{table}
 use Rattle.lists.proofs.Tables.{length-table}
 use Rattle.parts.proofs.Turns.{at_most_eight, read_register}
 use Rattle.parts.proofs.Written.{nothing, kept, stored, all}

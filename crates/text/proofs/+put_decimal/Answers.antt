@@ -1,5 +1,5 @@
 -- `text::put_decimal` meets its contract: the last digit stands behind those of a tenth of the number.
-use Rattle.std.proofs.Common.{ℕ, ◌≤◌, ◌/◌, length, arith}
+use Rattle.std.proofs.Common.{◌≤◌, ◌/◌, length, arith}
 use Rattle.text.specs.Text.{decimal}
 use Rattle.text.proofs.Digits.{decimal_small, decimal_large, decimal_shorter}
 use Rattle.text.proofs.Writing.{one, followed}

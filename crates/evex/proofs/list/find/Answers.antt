@@ -1,7 +1,6 @@
 -- `evex::list::find` meets its contract: what is left of the list, searched, gives what the whole list gives.
 use native.Mathlib.Omega.{arith}
 use mathlib.Core.Path.{◌∙◌}
-use Prim.Native.Nat.{◌-◌}
 use Rattle.evex.specs.List.{rows}
 use Rattle.evex.proofs.Search.{ends, passes, nothing_left}
 use Rattle.evex.proofs.list.find.Goals as goal

@@ -1,5 +1,5 @@
 -- The loop goes down to the root: n stays below the square of s + 1.
-use Prim.Native.Nat.{◌<◌, ◌^◌}
+use Prim.Native.Nat.{◌^◌}
 use native.Mathlib.Omega.{arith}
 use native.Mathlib.Nat.{div-le_self, mul-le-mul, lt_of_le_of_lt}
 use lib.Dec.{lit<}
@@ -27,9 +27,9 @@ loop-s-init c = c.one_down-s.ensures
 
 pub overflow_mul-s : goal.overflow_mul-s
 overflow_mul-s c = record {
-      fits = lt_of_le_of_lt (mul-le-mul {n₁ = c.loop-s.s} {m₁ = c.loop-s.s} {n₂ = 2 ^ 25} {m₂ = 2 ^ 25} (omega arith) (omega arith))
-          (lit< tt);
-    }
+  fits = lt_of_le_of_lt (mul-le-mul {n₁ = c.loop-s.s} {m₁ = c.loop-s.s} {n₂ = 2 ^ 25} {m₂ = 2 ^ 25} (omega arith) (omega arith))
+      (lit< tt);
+}
 
 pub overflow_sub-s : goal.overflow_sub-s
 overflow_sub-s c = omega (arith, (down c.args.n c.loop-s.s c.loop-s-test.true).0)

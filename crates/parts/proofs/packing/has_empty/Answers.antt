@@ -1,5 +1,4 @@
 -- `parts::packing::has_empty` meets its contract: before register i none is marked and all zero.
-use Prim.Native.Nat.{◌-◌}
 use mathlib.Core.Path.{sym, ◌∙◌}
 use native.Mathlib.Omega.{arith}
 use Rattle.parts.proofs.Loops.{next_placed, placed_most}

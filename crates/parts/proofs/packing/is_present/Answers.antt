@@ -1,5 +1,4 @@
 -- `parts::packing::is_present` meets its contract: after k turns the first k bytes are or-ed.
-use Prim.Native.Nat.{◌-◌}
 use mathlib.Core.Path.{refl}
 use native.Mathlib.Omega.{arith}
 use Rattle.lists.proofs.Filling.{or_none, or_more}

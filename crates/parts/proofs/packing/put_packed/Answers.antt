@@ -1,5 +1,4 @@
 -- `parts::packing::put_packed` meets its contract: after i turns the word and the present ones of the first i registers are written.
-use Prim.Native.Nat.{◌-◌}
 use native.Mathlib.Omega.{arith}
 use Rattle.parts.proofs.Packed.{pack_least, says_present, word_put, next_room, one_put, all_put}
 use Rattle.parts.proofs.Loops.{lent_register, register_long}

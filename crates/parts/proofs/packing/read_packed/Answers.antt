@@ -1,5 +1,4 @@
 -- `parts::packing::read_packed` meets its contract: after i turns the first i registers are read.
-use Prim.Native.Nat.{◌-◌}
 use native.Mathlib.Omega.{arith}
 use Rattle.parts.proofs.Written.{kept}
 use Rattle.parts.proofs.Loops.{register_long}

@@ -1,5 +1,4 @@
 -- `parts::packing::size_by` meets its contract: after i turns `at` is where register i stands.
-use Prim.Native.Nat.{◌-◌}
 use native.Mathlib.Omega.{arith}
 use Rattle.parts.proofs.Loops.{first_placed, next_placed, last_placed, placed_most}
 use Rattle.parts.proofs.packing.size_by.Goals as goal

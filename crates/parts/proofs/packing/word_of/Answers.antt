@@ -1,5 +1,4 @@
 -- `parts::packing::word_of` meets its contract: after i turns the word has the bits of the first i registers.
-use Prim.Native.Nat.{◌-◌}
 use native.Mathlib.Omega.{arith}
 use Rattle.parts.proofs.Loops.{nothing_marked, word_fits, one_marked, all_marked, lent_register, register_long}
 use Rattle.parts.proofs.packing.word_of.Goals as goal
