@@ -36,7 +36,7 @@ fn put_step(
     at: usize,
 ) -> Turn
     requires { (offset ≤ length code.now) × (at + 51 ≤ length out.old) }
-    ensures pointer_after { stepped_of result.answer vectors.new masks.new general.now control.new pointer.new
+    ensures state_after { stepped_of result.answer vectors.new masks.new general.now control.new pointer.new
         ≡ step memory.now
         (state_of vectors.old masks.old general.now control.old pointer.old)
         (drop offset code.now) }

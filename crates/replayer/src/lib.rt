@@ -32,7 +32,7 @@ fn differs(
         × (code ≤ 15)
         × (memory ≤ 4096)
         × (77 + code + memory ≤ length item.now) }
-    ensures pointer_after { state_of vectors.new masks.new general.now control.new pointer.new
+    ensures state_after { state_of vectors.new masks.new general.now control.new pointer.new
         ≡ (step_of
         (state_of vectors.old masks.old general.now control.old pointer.old)
         item.now).state }
