@@ -28,11 +28,11 @@ use Rattle.lanes.specs.Work.{lanes_of, results_by, picked_at, Serves}
 
 -- ---- results are alike where each lane leaves the same
 
-results_same : (on other : ℕ → Bool) (lane laneToo : ℕ → Element)
-    → ((of : Element → ℕ) (j : ℕ) → j < 32 → cond (on j) (of (lane j)) 0 ≡ cond (other j) (of (laneToo j)) 0)
-    → results_by on lane ≡ results_by other laneToo
+results_same : (on other : ℕ → Bool) (lane lane_too : ℕ → Element)
+    → ((of : Element → ℕ) (j : ℕ) → j < 32 → cond (on j) (of (lane j)) 0 ≡ cond (other j) (of (lane_too j)) 0)
+    → results_by on lane ≡ results_by other lane_too
 unfolding results_by
-results_same on other lane laneToo same = λ i.
+results_same on other lane lane_too same = λ i.
     record {
       halves = table_equal 32 (same (λ r. r.value)) i;
       joined = ap or_all (table_equal 32 (same (λ r. r.value))) i;

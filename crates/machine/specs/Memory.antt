@@ -55,7 +55,7 @@ bytes_at (place.Words at broadcast) j = word_bytes (word_from at broadcast j)
 
 -- R5.7: a lane that is on reads a byte outside a memory of this length (R1.8)
 unfoldable pub outside : (ℕ → Bool) → ℕ → Located → Bool
-outside on memoryLength second = some (λ j. on j && some (λ a. leb memoryLength a) (bytes_at second j)) (table 32 (λ j. j))
+outside on memory_length second = some (λ j. on j && some (λ a. leb memory_length a) (bytes_at second j)) (table 32 (λ j. j))
 
 -- ---- elements
 
@@ -83,4 +83,4 @@ module _ (s : State) (i : Instruction) where
 
   -- R5.7: one of the bytes that are needed lies outside a memory of this length
   unfoldable pub needs_outside : ℕ → Bool
-  needs_outside memoryLength = outside on memoryLength second_at
+  needs_outside memory_length = outside on memory_length second_at

@@ -14,7 +14,7 @@ use Rattle.machine.specs.TwoRuns.{SwitchesOn, Needs}
 module _ (s : State) (i : Instruction) where
   -- R5.7: an address that is needed (R5.6) lies outside memory
   abbrev pub Faults : Type 0
-  Faults = (memoryLength : ℕ) → (needs_outside s i memoryLength ≡ true) ↔ ((a : ℕ) × Needs s i a × (memoryLength ≤ a))
+  Faults = (memory_length : ℕ) → (needs_outside s i memory_length ≡ true) ↔ ((a : ℕ) × Needs s i a × (memory_length ≤ a))
 
   -- R7.3: a lane that is on raises an exception that is unmasked
   abbrev pub Raises : Type 0
