@@ -1,6 +1,6 @@
 -- `lanes::one_by_one` meets its contract: the loop fills the results lane by lane, and or-s the halves and the flags; no lane is on
 -- behind them.
-use Prim.Native.Nat.{◌-◌, ◌<◌}
+use Prim.Native.Nat.{◌<◌}
 use mathlib.Core.Path.{refl, ◌∙◌, sym}
 use native.Mathlib.Nat.{le_trans}
 use native.Mathlib.Omega.{arith}

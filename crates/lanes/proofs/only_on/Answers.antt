@@ -1,5 +1,4 @@
 -- `lanes::only_on` meets its contract: the loop fills the lanes, and or-s them.
-use Prim.Native.Nat.{◌-◌}
 use mathlib.Core.Path.{refl}
 use native.Mathlib.Omega.{arith}
 use Rattle.lists.proofs.Filling.{none, more, full, or_none, or_more, or_full}

@@ -1,5 +1,4 @@
 -- `lanes::whole_vector` meets its contract: the loop fills the results lane by lane, and or-s the halves and the flags.
-use Prim.Native.Nat.{◌-◌}
 use mathlib.Core.Path.{refl}
 use native.Mathlib.Omega.{arith}
 use Rattle.lists.proofs.Filling.{none, more, full, or_none, or_more, or_full}

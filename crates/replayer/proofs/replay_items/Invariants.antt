@@ -4,7 +4,7 @@
 use Prim.Native.Nat.{◌-◌}
 use lib.ListN.{length}
 use Rattle.machine.specs.State.{state_of}
-use Rattle.replayer.proofs.Going.{Going, item}
+use Rattle.replayer.proofs.Going.{Going}
 use Rattle.replayer.proofs.replay_items.Given as goal
 
 abbrev pub invariant-loop-at : goal.invariant-loop-at

@@ -1,9 +1,8 @@
 -- `saved::source_number` meets its contract: each `return` is a law of Loading.antt, at what the tests before it have shown.
 use mathlib.Core.Path.{◌≡◌, sym, ap, ◌∙◌}
-use mathlib.Core.Bool.{false}
 use native.Mathlib.Omega.{arith}
 use Rattle.forms.specs.Version.{is_packed, no_version}
-use Rattle.forms.specs.Saved.{version_number, version_in}
+use Rattle.forms.specs.Saved.{version_in}
 use Rattle.saved.proofs.Loading.{Right, right, too_short, no_such, other_size, other_length, wrong_one, high_control, is_form}
 use Rattle.saved.proofs.source_number.Goals.{After-is_packed-packed, Else-is_wrong}
 use Rattle.saved.proofs.source_number.Goals as goal

@@ -1,5 +1,5 @@
 -- `sources::memory_halves` meets its contract: the loop fills the halves lane by lane, and no lane is on behind them.
-use Rattle.std.proofs.Common.{◌-◌, sym, refl, ◌∙◌, le_trans, arith}
+use Rattle.std.proofs.Common.{sym, refl, ◌∙◌, le_trans, arith}
 use lib.ListN.{get_or-replicate}
 use Rattle.evex.proofs.Bitwise.{bit_above}
 use Rattle.machine.specs.Lanes.{memory_halves}

@@ -1,5 +1,5 @@
 -- `sources::register_halves` meets its contract: the loop fills the halves lane by lane.
-use Rattle.std.proofs.Common.{◌-◌, refl, arith}
+use Rattle.std.proofs.Common.{refl, arith}
 use Rattle.machine.specs.Lanes.{register_halves}
 use Rattle.lists.proofs.Filling.{none, more, all}
 use Rattle.sources.proofs.register_halves.Goals as goal

@@ -1,5 +1,4 @@
 -- `store::sixteen_bits` meets its contract: the loop or-s the bits, each at its place.
-use Prim.Native.Nat.{◌-◌}
 use native.Mathlib.Omega.{arith}
 use lib.Pow.{shl_exact}
 use Rattle.lists.proofs.Filling.{or_none, or_more, bits_joined}

@@ -1,7 +1,6 @@
 -- `store::store_all` meets its contract: the loop fills the register by two bytes a lane: see proofs/Stored.antt.
 use mathlib.Core.Path.{refl}
 use mathlib.Core.Bool.{false}
-use Prim.Native.Nat.{◌-◌}
 use native.Mathlib.Omega.{arith}
 use Rattle.machine.specs.Lanes.{new_register}
 use Rattle.lists.proofs.Filling.{none, all}

@@ -1,7 +1,7 @@
 -- `store::store_some` meets its contract: the loop fills the register by two bytes a lane, and all lanes behind them are kept: see
 -- proofs/Stored.antt.
 use mathlib.Core.Path.{sym, ◌∙◌}
-use Prim.Native.Nat.{◌*◌, ◌-◌, ◌≤◌}
+use Prim.Native.Nat.{◌*◌, ◌≤◌}
 use native.Mathlib.Omega.{arith}
 use Rattle.evex.specs.Bits.{is_set}
 use Rattle.machine.specs.Lanes.{new_register}

@@ -1,6 +1,5 @@
 -- `replayer::destination::are_other` meets its contract: after k turns it is known whether one of the first k bytes differs.
 -- Assumes nothing.
-use Prim.Native.Nat.{◌-◌}
 use mathlib.Core.Path.{refl}
 use native.Mathlib.Omega.{arith}
 use Rattle.lists.proofs.Filling.{found_none, found_more}

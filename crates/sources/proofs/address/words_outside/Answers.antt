@@ -1,6 +1,6 @@
 -- `sources::address::words_outside` meets its contract: all words up to the last are inside, or the loop has found what the lanes that it
 -- passed find; no lane is on behind them.
-use Rattle.std.proofs.Common.{◌-◌, ◌≤◌, leb, sym, ◌∙◌, le_trans, arith, lit≤, leb-true}
+use Rattle.std.proofs.Common.{◌≤◌, sym, ◌∙◌, le_trans, arith, lit≤, leb-true}
 use Rattle.evex.proofs.Bitwise.{bit_above}
 use Rattle.lists.proofs.Tests.{either}
 use Rattle.machine.specs.Memory.{outside}

@@ -1,6 +1,6 @@
 -- `sources::mask::end_of` meets its contract: of 32 digits those that are no leading zeros.
 use Rattle.std.proofs.Common.{◌≡◌, ℕ, ◌+◌, ◌-◌, ◌*◌, ◌^◌, ◌<◌, ◌≤◌, refl, arith}
-use lib.Count.{count_leading_zeros, leading_le, leading_length}
+use lib.Count.{count_leading_zeros, leading_length}
 use Rattle.sources.proofs.mask.end_of.Goals as goal
 
 -- by the digits, for any number that is the difference

@@ -1,10 +1,8 @@
 -- `store::scalar::lower_lanes` meets its contract: the loop fills sixteen bytes, and 0 stands behind them.
-use Prim.Native.Nat.{◌-◌}
 use mathlib.Core.Path.{refl, sym, ◌∙◌}
 use native.Mathlib.Nat.{le_trans}
 use native.Mathlib.Omega.{arith}
 use borrow.Author.Tests.{lt-ltb, le-ltb}
-use lib.Dec.{ltb}
 use lib.ListN.{get_or-replicate}
 use Rattle.lists.proofs.Filling.{none, more, all}
 use Rattle.store.proofs.scalar.lower_lanes.Goals as goal

@@ -1,7 +1,7 @@
 -- `store::scalar::store_around` meets its contract: the loop fills the register byte by byte, and two bytes are set.
 use mathlib.Core.Path.{refl, ap}
 use mathlib.Core.List.{List}
-use Prim.Native.Nat.{ℕ, ◌-◌}
+use Prim.Native.Nat.{ℕ}
 use native.Mathlib.Omega.{arith}
 use lib.ListN.{set, length-set}
 use Rattle.lists.proofs.Filling.{none, more, all}
