@@ -1,10 +1,9 @@
 -- `command::put_lines` meets its contract: `Going` is the loop's invariant, with a law for each way on; the measure is what is left of the
 -- code.
 -- Assumes nothing.
-use Prim.Native.Nat.{◌-◌, ◌≤◌}
+use Prim.Native.Nat.{◌≤◌}
 use mathlib.Core.Path.{◌≡◌}
 use native.Mathlib.Omega.{arith}
-use lib.ListN.{length}
 use Rattle.command.proofs.Going.{starts, ends, halts, stop_fits, moved, goes}
 use Rattle.command.proofs.put_lines.Goals.{After-put_step-turn}
 use Rattle.command.proofs.put_lines.Goals as goal
