@@ -1,6 +1,7 @@
 # make           every crate proved, the static library and the two programs compiled
 # make demo      the compaction of a small log (examples/compaction.c)
 # make test      the merge gate, .ci/run
+# make refusals  each must-fail edit by itself, with an error asked for at every place that it names
 # make bench     speed, side by side with plain Rust; ARGUMENTS names groups: arithmetic, steps, saved, replays
 # make tools     case and record, in target/tools: text for the programs, a processor recorded, a recording explained
 # make witness   a million instructions by this machine's processor and the library (RIDGECROOK_STEPS); with KEEP=folder the first that
@@ -10,15 +11,15 @@
 # make exhaustive  every pair of halves by both, half an hour on a core; options in ARGUMENTS. Without AVX512-FP16: comparisons alone,
 #                by singles, in two minutes, and a sample of the rest by the second program
 LIBRARY := target/staticlib/libridgecrook.a
-MADE := $(LIBRARY) target/bin/run target/bin/replay target/stamp/half_laws
-SOURCES := crates.txt $(shell find crates -type f -not -path "*/must-fail/*")
+MADE := $(LIBRARY) target/bin/run target/bin/replay
+SOURCES := crates.txt $(shell find crates -type f -not -path "*/must-fail/*" -not -path "*/out/*")
 export CARGO_TARGET_DIR := $(CURDIR)/target/cargo
 
 .NOTPARALLEL:
-.PHONY: all demo test bench tools witness recordings exhaustive clean
+.PHONY: all demo test refusals bench tools witness recordings exhaustive clean
 all: $(MADE)
 
-# All in one call of rt, which leaves a file that need not change as old as it is: touched, or make would come back each time.
+# All in one call, which may leave a file as old as it is: touched, or make would come back each time.
 $(MADE) &: $(SOURCES)
 	@tools/prove
 	@touch -c $(MADE)
@@ -32,6 +33,9 @@ target/demo/compaction: examples/compaction.c include/ridgecrook.h $(LIBRARY)
 
 test:
 	@.ci/run
+
+refusals: $(LIBRARY)
+	@tools/refusals --jobs 2
 
 bench: $(LIBRARY)
 	@cd bench && cargo run --offline --release --quiet -- $(ARGUMENTS)
@@ -53,4 +57,4 @@ exhaustive: $(LIBRARY)
 	@cd tests && cargo run --offline --release --quiet --bin exhaustive -- $(ARGUMENTS)
 
 clean:
-	rm -rf target
+	rm -rf target crates/*/out
