@@ -4,7 +4,7 @@
 use Prim.Native.Nat.{◌≤◌}
 use mathlib.Core.Path.{◌≡◌}
 use native.Mathlib.Omega.{arith}
-use Rattle.command.proofs.Going.{starts, ends, halts, stop_fits, moved, goes}
+use Rattle.command.proofs.Going.{ends, halts, stop_fits, moved, goes}
 use Rattle.command.proofs.put_lines.Goals.{After-put_step-turn}
 use Rattle.command.proofs.put_lines.Goals as goal
 
@@ -15,14 +15,6 @@ onward c z =
     let loop_test = c.loop-offset-test in
     let m = moved c.loop-offset.invariant c.put_step-turn.ensures.state_after loop_test.true z in
     (m.0, omega (arith, m.1, c.requires.0))
-
-pub loop-offset-init : goal.loop-offset-init
-loop-offset-init c = starts _ _ _ _
-
-pub put_step-turn-requires : goal.put_step-turn-requires
-put_step-turn-requires c =
-    let loop = c.loop-offset in
-    omega (arith, loop.invariant, c.requires)
 
 pub put_stop_line-requires : goal.put_stop_line-requires
 put_stop_line-requires c =
@@ -43,14 +35,6 @@ returns-then-answer-ne0 c =
     loop_test.true put_step.ensures.put
     if1.true c.put_stop_line.ensures
 
-pub overflow_cast-offset : goal.overflow_cast-offset
-overflow_cast-offset c = omega (arith, onward (goal.at.overflow_cast-offset c).After-put_step-turn c.if-answer-ne0.false)
-
-pub overflow_add-offset : goal.overflow_add-offset
-overflow_add-offset c =
-    let loop = c.loop-offset in
-    omega (arith, onward (goal.at.overflow_add-offset c).After-put_step-turn c.if-answer-ne0.false, loop.invariant)
-
 pub loop-offset-smaller : goal.loop-offset-smaller
 loop-offset-smaller c =
     let loop_test = c.loop-offset-test in
@@ -68,9 +52,6 @@ loop-offset-preserved c =
     goes loop.invariant put_step.ensures.state_after
     loop_test.true put_step.ensures.put
     c.requires.0 put_step.auto.out c.if-answer-ne0.false put_step.auto.vectors
-
-pub put_stop_line-requires-2 : goal.put_stop_line-requires-2
-put_stop_line-requires-2 c = omega (arith, c.loop-offset.invariant, c.requires)
 
 pub returns : goal.returns
 returns c =

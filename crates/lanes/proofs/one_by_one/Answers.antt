@@ -13,12 +13,6 @@ use Rattle.lanes.proofs.one_by_one.Goals as goal
 pub loop-j-init : goal.loop-j-init
 loop-j-init c = (none refl, or_none, or_none)
 
-pub has-requires : goal.has-requires
-has-requires c = omega (arith, c.end_of-end.ensures.1)
-
-pub loop-j-smaller-then-not-has : goal.loop-j-smaller-then-not-has
-loop-j-smaller-then-not-has c = omega arith
-
 pub loop-j-preserved-then-not-has : goal.loop-j-preserved-then-not-has
 loop-j-preserved-then-not-has c =
     let below : c.loop-j.j < 32 = omega (arith, c.end_of-end.ensures.1) in
@@ -27,36 +21,6 @@ loop-j-preserved-then-not-has c =
       or_same c.loop-j.invariant.1 (rw off),
       or_same c.loop-j.invariant.2 (rw off),
     )
-
-pub offset_bounds-d-j : goal.offset_bounds-d-j
-offset_bounds-d-j c = omega (arith, c.end_of-end.ensures.1)
-
-pub bounds-d-j : goal.bounds-d-j
-bounds-d-j c = omega (arith, c.end_of-end.ensures.1)
-
-pub offset_bounds-f-j : goal.offset_bounds-f-j
-offset_bounds-f-j c = omega (arith, c.end_of-end.ensures.1)
-
-pub bounds-f-j : goal.bounds-f-j
-bounds-f-j c = omega (arith, c.end_of-end.ensures.1)
-
-pub offset_bounds-x-j : goal.offset_bounds-x-j
-offset_bounds-x-j c = omega (arith, c.end_of-end.ensures.1)
-
-pub bounds-x-j : goal.bounds-x-j
-bounds-x-j c = omega (arith, c.end_of-end.ensures.1)
-
-pub operate-r-requires : goal.operate-r-requires
-operate-r-requires c = tt
-
-pub offset_bounds-halves-j : goal.offset_bounds-halves-j
-offset_bounds-halves-j c = omega (arith, c.end_of-end.ensures.1)
-
-pub bounds-halves-j : goal.bounds-halves-j
-bounds-halves-j c = omega (arith, c.end_of-end.ensures.1)
-
-pub loop-j-smaller : goal.loop-j-smaller
-loop-j-smaller c = omega arith
 
 pub loop-j-preserved : goal.loop-j-preserved
 loop-j-preserved c =

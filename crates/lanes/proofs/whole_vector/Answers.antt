@@ -8,30 +8,6 @@ use Rattle.lanes.proofs.whole_vector.Goals as goal
 pub loop-j-init : goal.loop-j-init
 loop-j-init c = (none refl, or_none, or_none)
 
-pub offset_bounds-f-j : goal.offset_bounds-f-j
-offset_bounds-f-j c = omega arith
-
-pub bounds-f-j : goal.bounds-f-j
-bounds-f-j c = omega arith
-
-pub offset_bounds-x-j : goal.offset_bounds-x-j
-offset_bounds-x-j c = omega arith
-
-pub bounds-x-j : goal.bounds-x-j
-bounds-x-j c = omega arith
-
-pub picked-r-requires : goal.picked-r-requires
-picked-r-requires c = tt
-
-pub offset_bounds-halves-j : goal.offset_bounds-halves-j
-offset_bounds-halves-j c = omega arith
-
-pub bounds-halves-j : goal.bounds-halves-j
-bounds-halves-j c = omega arith
-
-pub loop-j-smaller : goal.loop-j-smaller
-loop-j-smaller c = omega arith
-
 pub loop-j-preserved : goal.loop-j-preserved
 loop-j-preserved c = (
   more c.loop-j.invariant.0 (omega arith) (rw c.picked-r.ensures),

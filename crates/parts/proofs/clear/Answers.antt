@@ -2,20 +2,11 @@
 use mathlib.Core.Path.{sym}
 use native.Mathlib.Omega.{arith}
 use Rattle.lists.proofs.Tables.{length-table, get_or-table}
-use Rattle.parts.proofs.Written.{nothing, kept, stored, all}
+use Rattle.parts.proofs.Written.{nothing, stored}
 use Rattle.parts.proofs.clear.Goals as goal
 
 pub loop-k-init : goal.loop-k-init
 loop-k-init c = nothing _ _ (length-table _ _)
 
-pub bounds-part-k : goal.bounds-part-k
-bounds-part-k c = omega (arith, kept c.loop-k.invariant)
-
-pub loop-k-smaller : goal.loop-k-smaller
-loop-k-smaller c = omega arith
-
 pub loop-k-preserved : goal.loop-k-preserved
 loop-k-preserved c = stored c.loop-k.invariant 0 (omega arith) (sym (get_or-table _ (λ k. 0) _ 0 c.loop-k-test.true))
-
-pub returns : goal.returns
-returns c = all c.loop-k.invariant (omega arith)

@@ -7,7 +7,7 @@ use mathlib.Core.List.{List}
 use native.Mathlib.Omega.{arith}
 use lib.ListN.{length, take, drop}
 use Rattle.forms.proofs.Slices.{to_end}
-use Rattle.replayer.proofs.Going.{ends_inside, IsItem, no_item, item, starts, ends, bad, other, goes}
+use Rattle.replayer.proofs.Going.{ends_inside, IsItem, no_item, item, ends, bad, other, goes}
 use Rattle.replayer.proofs.replay_items.Goals.{In-Item}
 use Rattle.replayer.proofs.replay_items.Goals as goal
 
@@ -26,18 +26,6 @@ inside : (c : In-Item)
     → at_in c + 77 + c.in-Item.code + c.in-Item.memory ≤ length (items_in c)
 inside c = ends_inside (items_in c) (at_in c) (found_here c) (to_end (at_in c) (items_in c))
 
-pub loop-at-init : goal.loop-at-init
-loop-at-init c = starts _ _ c.requires
-
-pub slice_bounds-find-count : goal.slice_bounds-find-count
-slice_bounds-find-count c = omega arith
-
-pub slice_bounds-find-start : goal.slice_bounds-find-start
-slice_bounds-find-start c = omega arith
-
-pub slice_bounds-find-end : goal.slice_bounds-find-end
-slice_bounds-find-end c = omega arith
-
 pub returns-in_default : goal.returns-in_default
 returns-in_default c =
     let loop = c.loop-at in
@@ -45,15 +33,6 @@ returns-in_default c =
     let find = c.find-found in
     bad loop.invariant loop_test.true (to_end loop.at c.args.items.now)
     (no_item _ (sym c.in_default.is ∙ find.ensures))
-
-pub slice_bounds-differs-count : goal.slice_bounds-differs-count
-slice_bounds-differs-count c = omega arith
-
-pub slice_bounds-differs-start : goal.slice_bounds-differs-start
-slice_bounds-differs-start c = omega arith
-
-pub slice_bounds-differs-end : goal.slice_bounds-differs-end
-slice_bounds-differs-end c = omega arith
 
 pub differs-requires : goal.differs-requires
 differs-requires c =
@@ -75,25 +54,11 @@ returns-then-differs c =
     other loop.invariant loop_test.true (to_end loop.at c.args.items.now) (found_here (goal.at.returns-then-differs c).In-Item).bad
     (sym differs.ensures.value ∙ c.if-differs.true)
 
-pub overflow_add-at : goal.overflow_add-at
-overflow_add-at c = omega (arith, inside (goal.at.overflow_add-at c).In-Item)
-
 pub overflow_add-at-in-loop-at : goal.overflow_add-at-in-loop-at
 overflow_add-at-in-loop-at c = omega (arith, inside (goal.at.overflow_add-at-in-loop-at c).In-Item)
 
 pub overflow_add-at-in-loop-at-2 : goal.overflow_add-at-in-loop-at-2
 overflow_add-at-in-loop-at-2 c = omega (arith, inside (goal.at.overflow_add-at-in-loop-at-2 c).In-Item)
-
-pub overflow_add-count : goal.overflow_add-count
-overflow_add-count c =
-    let loop = c.loop-at in
-    let loop_test = c.loop-at-test in
-    omega (arith, loop.invariant.counted, loop_test.true)
-
-pub loop-at-smaller : goal.loop-at-smaller
-loop-at-smaller c =
-    let loop_test = c.loop-at-test in
-    omega (arith, inside (goal.at.loop-at-smaller c).In-Item, loop_test.true)
 
 pub loop-at-preserved : goal.loop-at-preserved
 loop-at-preserved c =

@@ -7,24 +7,6 @@ use Rattle.store.proofs.sixteen_bits.Goals as goal
 pub loop-j-init : goal.loop-j-init
 loop-j-init c = (or_none, omega arith)
 
-pub overflow_add-bits : goal.overflow_add-bits
-overflow_add-bits c = omega (arith, c.requires)
-
-pub offset_bounds-halves-from : goal.offset_bounds-halves-from
-offset_bounds-halves-from c = omega (arith, c.requires)
-
-pub bounds-halves-from : goal.bounds-halves-from
-bounds-halves-from c = omega (arith, c.requires)
-
-pub overflow_cast-bits : goal.overflow_cast-bits
-overflow_cast-bits c = omega arith
-
-pub overflow_shl-bits : goal.overflow_shl-bits
-overflow_shl-bits c = omega arith
-
-pub loop-j-smaller : goal.loop-j-smaller
-loop-j-smaller c = omega arith
-
 pub loop-j-preserved : goal.loop-j-preserved
 loop-j-preserved c =
     let turn = c.loop-j in

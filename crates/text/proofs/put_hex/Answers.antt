@@ -16,33 +16,6 @@ pub loop-k-init : goal.loop-k-init
 unfolding table
 loop-k-init c = (omega arith, refl, rw add-zero (none c.args.out.now c.args.at))
 
-pub overflow_mul-k : goal.overflow_mul-k
-overflow_mul-k c = omega arith
-
-pub overflow_sub-k : goal.overflow_sub-k
-overflow_sub-k c = omega arith
-
-pub overflow_cast-k : goal.overflow_cast-k
-overflow_cast-k c = omega arith
-
-pub overflow_shr-x : goal.overflow_shr-x
-overflow_shr-x c = omega arith
-
-pub hex_digit-requires : goal.hex_digit-requires
-hex_digit-requires c = omega arith
-
-pub overflow_add-out : goal.overflow_add-out
-overflow_add-out c = omega arith
-
-pub bounds-out-at : goal.bounds-out-at
-bounds-out-at c = omega arith
-
-pub overflow_add-k : goal.overflow_add-k
-overflow_add-k c = omega arith
-
-pub loop-k-smaller : goal.loop-k-smaller
-loop-k-smaller c = omega arith
-
 pub loop-k-preserved : goal.loop-k-preserved
 loop-k-preserved c =
     let k : ℕ = c.loop-k.k in
@@ -54,9 +27,6 @@ loop-k-preserved c =
       rw (table_next k, ← e) (turn k c.hex_digit.result c.loop-k.invariant.1 (omega arith)
           c.loop-k.invariant.2),
     )
-
-pub overflow_add-result : goal.overflow_add-result
-overflow_add-result c = omega arith
 
 pub returns : goal.returns
 unfolding hex8

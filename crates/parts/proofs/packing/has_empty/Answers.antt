@@ -22,14 +22,8 @@ is_empty-requires c = (
 pub returns-then-is_empty : goal.returns-then-is_empty
 returns-then-is_empty c = one_empty c.loop-i.invariant (omega arith) (sym c.is_empty.ensures ∙ c.if-is_empty.true)
 
-pub size_of-at-requires : goal.size_of-at-requires
-size_of-at-requires c = omega arith
-
 pub overflow_add-at : goal.overflow_add-at
 overflow_add-at c = omega (arith, placed_most (next_placed c.loop-i.invariant.placed (omega arith) c.size_of-at.ensures))
-
-pub loop-i-smaller : goal.loop-i-smaller
-loop-i-smaller c = omega arith
 
 pub loop-i-preserved : goal.loop-i-preserved
 loop-i-preserved c =

@@ -8,12 +8,6 @@ use Rattle.parts.proofs.packing.is_present.Goals as goal
 pub loop-k-init : goal.loop-k-init
 loop-k-init c = (omega arith, or_none)
 
-pub bounds-register-k : goal.bounds-register-k
-bounds-register-k c = omega (arith, c.requires)
-
-pub loop-k-smaller : goal.loop-k-smaller
-loop-k-smaller c = omega arith
-
 pub loop-k-preserved : goal.loop-k-preserved
 loop-k-preserved c = (omega arith, or_more c.loop-k.invariant.1 refl)
 

@@ -4,12 +4,6 @@ use Rattle.parts.proofs.Packed.{pack_least, says_present, word_put, next_room, o
 use Rattle.parts.proofs.Loops.{lent_register, register_long}
 use Rattle.parts.proofs.packing.put_packed.Goals as goal
 
-pub slice_bounds-put_number-count : goal.slice_bounds-put_number-count
-slice_bounds-put_number-count c = omega arith
-
-pub slice_bounds-put_number-start : goal.slice_bounds-put_number-start
-slice_bounds-put_number-start c = omega arith
-
 pub slice_bounds-put_number-end : goal.slice_bounds-put_number-end
 slice_bounds-put_number-end c =
     pack_least c.args.vectors.now c.args.part.now c.requires.0
@@ -20,24 +14,6 @@ loop-i-init c =
     word_put c.args.vectors.now c.args.part.now c.requires.0 c.requires.2 c.requires.1
     c.put_number.ensures
 
-pub overflow_mul-from : goal.overflow_mul-from
-overflow_mul-from c = omega arith
-
-pub overflow_add-end : goal.overflow_add-end
-overflow_add-end c = omega arith
-
-pub overflow_mul-end : goal.overflow_mul-end
-overflow_mul-end c = omega arith
-
-pub slice_bounds-put_one-count : goal.slice_bounds-put_one-count
-slice_bounds-put_one-count c = omega arith
-
-pub slice_bounds-put_one-start : goal.slice_bounds-put_one-start
-slice_bounds-put_one-start c = omega arith
-
-pub slice_bounds-put_one-end : goal.slice_bounds-put_one-end
-slice_bounds-put_one-end c = omega (arith, c.requires.0)
-
 pub put_one-at-requires : goal.put_one-at-requires
 put_one-at-requires c = (
   omega arith,
@@ -47,9 +23,6 @@ put_one-at-requires c = (
   next_room c.loop-i.invariant (omega arith)
       (lent_register c.args.vectors.now c.loop-i.i),
 )
-
-pub loop-i-smaller : goal.loop-i-smaller
-loop-i-smaller c = omega arith
 
 pub loop-i-preserved : goal.loop-i-preserved
 loop-i-preserved c =

@@ -2,7 +2,7 @@
 use native.Mathlib.Omega.{arith}
 use Rattle.parts.proofs.Written.{kept}
 use Rattle.parts.proofs.Loops.{register_long}
-use Rattle.parts.proofs.Packed.{packed_least, nothing_unpacked, next_stands, one_unpacked, all_unpacked}
+use Rattle.parts.proofs.Packed.{packed_least, nothing_unpacked, next_stands, one_unpacked}
 use Rattle.parts.proofs.packing.read_packed.Goals as goal
 
 pub word_in-word-requires : goal.word_in-word-requires
@@ -10,18 +10,6 @@ word_in-word-requires c = packed_least c.args.part.now c.requires.1
 
 pub loop-i-init : goal.loop-i-init
 loop-i-init c = nothing_unpacked c.args.part.now c.args.vectors.now c.requires.0 c.requires.1 c.word_in-word.ensures
-
-pub overflow_mul-from : goal.overflow_mul-from
-overflow_mul-from c = omega arith
-
-pub overflow_add-end : goal.overflow_add-end
-overflow_add-end c = omega arith
-
-pub overflow_mul-end : goal.overflow_mul-end
-overflow_mul-end c = omega arith
-
-pub slice_bounds-read_one-count : goal.slice_bounds-read_one-count
-slice_bounds-read_one-count c = omega arith
 
 pub read_one-at-requires : goal.read_one-at-requires
 read_one-at-requires c = (
@@ -31,13 +19,7 @@ read_one-at-requires c = (
   next_stands c.loop-i.invariant (omega arith),
 )
 
-pub loop-i-smaller : goal.loop-i-smaller
-loop-i-smaller c = omega arith
-
 pub loop-i-preserved : goal.loop-i-preserved
 loop-i-preserved c =
     let loop = c.loop-i in
     one_unpacked loop.invariant (omega arith) c.read_one-at.ensures.0 c.read_one-at.ensures.1
-
-pub returns : goal.returns
-returns c = all_unpacked c.loop-i.invariant (omega arith)

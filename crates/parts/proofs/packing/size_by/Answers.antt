@@ -6,14 +6,8 @@ use Rattle.parts.proofs.packing.size_by.Goals as goal
 pub loop-i-init : goal.loop-i-init
 loop-i-init c = first_placed _
 
-pub size_of-at-requires : goal.size_of-at-requires
-size_of-at-requires c = omega arith
-
 pub overflow_add-at : goal.overflow_add-at
 overflow_add-at c = omega (arith, placed_most (next_placed c.loop-i.invariant (omega arith) c.size_of-at.ensures))
-
-pub loop-i-smaller : goal.loop-i-smaller
-loop-i-smaller c = omega arith
 
 pub loop-i-preserved : goal.loop-i-preserved
 loop-i-preserved c = next_placed c.loop-i.invariant (omega arith) c.size_of-at.ensures

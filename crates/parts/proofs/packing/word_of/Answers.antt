@@ -1,36 +1,15 @@
 -- `parts::packing::word_of` meets its contract: after i turns the word has the bits of the first i registers.
 use native.Mathlib.Omega.{arith}
-use Rattle.parts.proofs.Loops.{nothing_marked, word_fits, one_marked, all_marked, lent_register, register_long}
+use Rattle.parts.proofs.Loops.{nothing_marked, word_fits, one_marked, all_marked, lent_register}
 use Rattle.parts.proofs.packing.word_of.Goals as goal
 
 pub loop-i-init : goal.loop-i-init
 loop-i-init c = nothing_marked _
 
-pub overflow_mul-at : goal.overflow_mul-at
-overflow_mul-at c = omega arith
-
-pub overflow_add-end : goal.overflow_add-end
-overflow_add-end c = omega arith
-
-pub overflow_mul-end : goal.overflow_mul-end
-overflow_mul-end c = omega arith
-
-pub slice_bounds-mark-count : goal.slice_bounds-mark-count
-slice_bounds-mark-count c = omega arith
-
-pub mark-word-requires : goal.mark-word-requires
-mark-word-requires c = (
-  omega arith,
-  register_long c.args.vectors.now c.loop-i.i c.requires (omega arith),
-)
-
 pub overflow_add-word : goal.overflow_add-word
 overflow_add-word c =
     let loop = c.loop-i in
     record { fits = word_fits loop.invariant (omega arith) (lent_register c.args.vectors.now loop.i) c.mark-word.ensures }
-
-pub loop-i-smaller : goal.loop-i-smaller
-loop-i-smaller c = omega arith
 
 pub loop-i-preserved : goal.loop-i-preserved
 loop-i-preserved c =

@@ -9,15 +9,6 @@ use Rattle.replayer.proofs.destination.are_other.Goals as goal
 pub loop-k-init : goal.loop-k-init
 loop-k-init c = found_none
 
-pub bounds-a-k : goal.bounds-a-k
-bounds-a-k c = omega (arith, c.requires)
-
-pub bounds-b-k : goal.bounds-b-k
-bounds-b-k c = omega (arith, c.requires)
-
-pub loop-k-smaller : goal.loop-k-smaller
-loop-k-smaller c = omega arith
-
 pub loop-k-preserved : goal.loop-k-preserved
 loop-k-preserved c =
     let loop = c.loop-k in

@@ -1,15 +1,11 @@
 -- `sources::address::words_outside` meets its contract: all words up to the last are inside, or the loop has found what the lanes that it
 -- passed find; no lane is on behind them.
-use Rattle.std.proofs.Common.{◌≤◌, sym, ◌∙◌, le_trans, arith, lit≤, leb-true}
+use Rattle.std.proofs.Common.{sym, ◌∙◌, le_trans, arith, leb-true}
 use Rattle.evex.proofs.Bitwise.{bit_above}
-use Rattle.lists.proofs.Tests.{either}
 use Rattle.machine.specs.Memory.{outside}
 use Rattle.lists.proofs.Filling.{found_none, found_more, found_all}
 use Rattle.sources.proofs.Words.{none_outside}
 use Rattle.sources.proofs.address.words_outside.Goals as goal
-
-pub words_inside-requires : goal.words_inside-requires
-words_inside-requires c = rw c.words_below.ensures (either (λ n. n ≤ 32) c.args.broadcast (lit≤ tt) c.end_of-end.ensures.1)
 
 pub returns-then-words_inside : goal.returns-then-words_inside
 returns-then-words_inside c =
@@ -21,12 +17,6 @@ returns-then-words_inside c =
 
 pub loop-j-init : goal.loop-j-init
 loop-j-init c = found_none
-
-pub lane_outside-found-requires : goal.lane_outside-found-requires
-lane_outside-found-requires c = omega (arith, c.end_of-end.ensures.1)
-
-pub loop-j-smaller : goal.loop-j-smaller
-loop-j-smaller c = omega arith
 
 pub loop-j-preserved : goal.loop-j-preserved
 loop-j-preserved c = found_more c.loop-j.invariant (omega (arith, c.end_of-end.ensures.1)) c.lane_outside-found.ensures
