@@ -39,7 +39,7 @@ execute-requires c = (
 pub returns : goal.returns
 returns c =
     rw
-    (← executes c.args.memory.now (state (goal.at.returns c).Start) c.args.code.now
-    c.if-vectors-ne2048.false c.if-control-ge65536.false
+    (← executes c.args.memory.now (state (goal.at.returns c).Start) c.args.code.now c.if-vectors-ne2048.false
+    c.if-control-ge65536.false
     (sym c.decode-decoded.ensures ∙ c.in-Fields.is))
     c.execute.ensures
