@@ -2,7 +2,7 @@
  * Ridgecrook for C: an interpreter of AVX512-FP16 machine code, one instruction a call, the half
  * arithmetic (IEEE 754 binary16) below it, and the replay of runs that were recorded elsewhere.
  *
- * Link with libridgecrook.a, which `rt staticlib ridgecrook` writes to target/staticlib/. The
+ * Link with libridgecrook.a, which `make` writes to target/staticlib/. The
  * library needs nothing else, and is compiled for plain x86-64: no processor with AVX512-FP16 is
  * asked for.
  *

@@ -1,4 +1,4 @@
-//! Links the static library that `rt staticlib ridgecrook` writes below the project root.
+//! Links the static library that `make` writes below the project root.
 
 use std::path::Path;
 use std::process::exit;
@@ -12,7 +12,7 @@ fn main() {
     println!("cargo:rerun-if-changed={}", archive.display());
     if !archive.is_file() {
         eprintln!(
-            "{} is missing: run `rt staticlib ridgecrook` in {}",
+            "{} is missing: run `make` in {}",
             archive.display(),
             root.display()
         );

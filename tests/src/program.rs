@@ -13,7 +13,7 @@ pub struct Program {
 
 /// Where a program is looked for.
 pub struct Place {
-    /// Its crate, by which `rt check` writes it below the project root.
+    /// Its crate, by whose name `make` writes it below the project root.
     pub name: &'static str,
     /// What may name another file in the environment.
     pub variable: &'static str,
@@ -32,7 +32,7 @@ pub const REPLAY: Place = Place {
 };
 
 impl Program {
-    /// The file that the environment names, else what `rt check` writes. A missing one is a
+    /// The file that the environment names, else what `make` writes. A missing one is a
     /// failure, since nothing would be tested.
     pub fn found(place: &Place) -> Program {
         let root = Path::new(env!("CARGO_MANIFEST_DIR")).parent();
@@ -46,7 +46,7 @@ impl Program {
         let (path_shown, root) = (path.display(), root.display());
         assert!(
             is_there,
-            "the program {path_shown} is missing: run `rt check {name}` in {root}"
+            "the program {path_shown} is missing: run `make` in {root}"
         );
         Program { path }
     }

@@ -1,4 +1,4 @@
--- Both ways of a saved form, over any version: `state-back` from a state to bytes and back, `bytes_back` from bytes to a state and back. Each
+-- Both ways of a saved form, over any version: `state_back` from a state to bytes and back, `bytes_back` from bytes to a state and back. Each
 -- part goes by itself, since it is read at the place where it is written.
 -- Assumes nothing.
 use Prim.Native.Nat.{ℕ, ◌+◌, ◌*◌, ◌^◌, ◌≤◌, ◌<◌}

@@ -1,4 +1,4 @@
--- The statements of specs/Trips.antt: a form is read as the state that was written (`state-back`), and written as the bytes that were read
+-- The statements of specs/Trips.antt: a form is read as the state that was written (`state_back`), and written as the bytes that were read
 -- (`bytes_back`); a move is both.
 -- Assumes nothing.
 use Prim.Native.Nat.{ℕ, ◌^◌, ◌<◌}

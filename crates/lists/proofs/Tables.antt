@@ -1,5 +1,5 @@
 -- Laws of the lists that the definitions make, over any elements: `table`, `some`, `or_all`, `paste`. A loop meets a table one index at a
--- time (`table-next`, `some_next`, `or-next`); where it has filled an array, `is-table` says what it is.
+-- time (`table_next`, `some_next`, `or_next`); where it has filled an array, `is_table` says what it is.
 -- Assumes nothing.
 use Prim.Native.Nat.{ℕ, zero, suc, ◌+◌, ◌/◌, ◌^◌, ◌≤◌, ◌<◌}
 use mathlib.Core.Path.{◌≡◌, refl, sym, ap, ap₂, ◌∙◌}

@@ -1,5 +1,5 @@
 -- Section 4 of docs/RULES.md: the statements of specs/Answers.antt. The number is `first_of` of the one list of conditions, and each of them
--- has a number that is not 0. What is left, that 6 is not given and the length are read off the ways in which a step ends (`of-step`);
+-- has a number that is not 0. What is left, that 6 is not given and the length are read off the ways in which a step ends (`of_step`);
 -- which bytes count, off what is decoded.
 -- Assumes nothing.
 use Prim.Native.Nat.{ℕ, suc, ◌<◌}

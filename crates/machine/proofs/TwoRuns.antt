@@ -1,7 +1,7 @@
 -- R11.7: the two-run theorem of specs/TwoRuns.antt.
 --
 -- A step looks at the vector file and the memory in three ways: at their lengths; through `gathered`, only at lanes that are on and at
--- bytes that these need (`gathered-equal`); and at bytes that are copied, each from the same lane of a register (`filled-equal`).
+-- bytes that these need (`gathered_equal`); and at bytes that are copied, each from the same lane of a register (`filled_equal`).
 -- Everything else is computed from the registers, the bytes and what was gathered, which are equal in both runs (`.. same`).
 -- Assumes nothing.
 use Prim.Native.Nat.{ℕ, suc, ◌+◌, ◌/◌, ◌≤◌, ◌<◌}

@@ -63,7 +63,7 @@ pub fn run(input: &[u8], name: &str) -> String {
     let shown = path.display();
     assert!(
         path.is_file(),
-        "the command {shown} is missing: run `rt check run`"
+        "the command {shown} is missing: run `make`"
     );
     let input = fs::File::open(file(&format!("{name}.bin"), input)).expect("the input opens");
     let output = Command::new(&path)
