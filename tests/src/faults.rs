@@ -396,7 +396,6 @@ fn refuse(step: &Step, outcome: &mut StepOutcome, number: u32) {
 #[cfg(test)]
 mod tests {
     use super::*;
-    use crate::differences::stand_in;
     use crate::witness::WitnessSteps;
 
     /// Where no processor is: the second program and the known difference stand in its place, and
@@ -407,7 +406,9 @@ mod tests {
         let mut counts = vec![Tried::default(); all().count()];
         for _ in 0..12_000 {
             let (step, _) = steps.step();
-            try_all(&step, &second::step(&step), &stand_in(&step), &mut counts);
+            let by_rules = second::step(&step);
+            let (processor, _) = on_a_processor(&step, &by_rules);
+            try_all(&step, &by_rules, &processor, &mut counts);
         }
         for ((name, _), Tried { made, found }) in all().zip(counts) {
             assert!(made > 0, "{name}: never made");
