@@ -161,12 +161,15 @@ fn print(input: &[u8], out: &mut [u8]) -> usize
     )
 }
 
-// R10.6: all that is printed for the input goes to the start of the output; the answer is its length. Every text fits 12,288 bytes: in a
-// shorter output nothing is written, and the answer is 0.
+// Every text fits so many bytes (R10.6).
+const ROOM: usize = 12288;
+
+// R10.6: all that is printed for the input goes to the start of the output; the answer is its length. In an output that has no room
+// nothing is written, and the answer is 0.
 pub fn command(input: &[u8], output: &mut [u8]) -> usize
     ensures { Wrote (commanded input.now output.old) output.old result output.new }
 {
-    if output.len() < 12288 {
+    if output.len() < ROOM {
         return 0;
     }
     print(input, output)

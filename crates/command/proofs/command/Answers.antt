@@ -9,9 +9,9 @@ use Rattle.command.specs.Command.{room, commanded}
 use Rattle.command.proofs.Runs.{prints}
 use Rattle.command.proofs.command.Goals as goal
 
-pub returns-then-output-lt12288 : goal.returns-then-output-lt12288
+pub returns-then-output-lt-ROOM : goal.returns-then-output-lt-ROOM
 unfolding commanded
-returns-then-output-lt12288 c =
+returns-then-output-lt-ROOM c =
     let short : length c.args.output.now < room = omega arith in
     rw (lt-leb room _ short) (wrote (omega arith) (none _ 0))
 

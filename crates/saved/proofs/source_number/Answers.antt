@@ -3,8 +3,8 @@ use mathlib.Core.Path.{◌≡◌, sym, ap, ◌∙◌}
 use native.Mathlib.Omega.{arith}
 use Rattle.forms.specs.Version.{is_packed, no_version}
 use Rattle.forms.specs.Saved.{version_in}
-use Rattle.saved.proofs.Loading.{Right, right, too_short, no_such, other_size, other_length, wrong_one, high_control, is_form}
-use Rattle.saved.proofs.source_number.Goals.{After-is_packed-packed, Else-is_wrong}
+use Rattle.saved.proofs.Loading.{right, too_short, no_such, other_size, other_length, wrong_one, high_control, is_form}
+use Rattle.saved.proofs.source_number.Goals.{After-is_packed-packed}
 use Rattle.saved.proofs.source_number.Goals as goal
 
 -- what the tests have shown, at the places where they have
@@ -12,17 +12,6 @@ packs : (c : After-is_packed-packed)
     → c.is_packed-packed.result ≡ is_packed (version_in c.args.saved.now)
 packs c =
     c.is_packed-packed.ensures ∙ rw (c.version_of.ensures, c.number_of-number.ensures)
-
-formed : (c : Else-is_wrong)
-    → Right
-    c.args.saved.now
-formed c =
-    let if3 = c.if-saved-file_size_in in
-    let file_size_in = c.file_size_in in
-    right _ (c.is_packed-packed.ensures ∙ rw (c.version_of.ensures, c.number_of-number.ensures))
-    (ap no_version (sym c.number_of-number.ensures) ∙ sym c.no_version.ensures ∙ c.if-no_version.false) file_size_in.ensures.0 if3.false
-    c.size_at.ensures.0 c.if-size_at-saved.false c.is_wrong.ensures
-    c.if-is_wrong.false
 
 pub returns-then-saved : goal.returns-then-saved
 returns-then-saved c = too_short c.args.saved.now c.if-saved.true
@@ -44,7 +33,16 @@ returns-then-is_wrong c =
 
 pub returns-then-read_number-ge65536 : goal.returns-then-read_number-ge65536
 returns-then-read_number-ge65536 c =
-    high_control _ (formed (goal.at.returns-then-read_number-ge65536 c).Else-is_wrong) c.read_number.ensures.0 c.if-read_number-ge65536.true
+    high_control _
+    (right _ (c.is_packed-packed.ensures ∙ rw (c.version_of.ensures, c.number_of-number.ensures))
+    (ap no_version (sym c.number_of-number.ensures) ∙ sym c.no_version.ensures ∙ c.if-no_version.false) c.file_size_in.ensures.0
+    c.if-saved-file_size_in.false c.size_at.ensures.0 c.if-size_at-saved.false c.is_wrong.ensures c.if-is_wrong.false)
+    c.read_number.ensures.0 c.if-read_number-ge65536.true
 
 pub returns : goal.returns
-returns c = is_form _ (formed (goal.at.returns c).Else-is_wrong) c.read_number.ensures.0 (omega arith)
+returns c =
+    is_form _
+    (right _ (c.is_packed-packed.ensures ∙ rw (c.version_of.ensures, c.number_of-number.ensures))
+    (ap no_version (sym c.number_of-number.ensures) ∙ sym c.no_version.ensures ∙ c.if-no_version.false) c.file_size_in.ensures.0
+    c.if-saved-file_size_in.false c.size_at.ensures.0 c.if-size_at-saved.false c.is_wrong.ensures c.if-is_wrong.false)
+    c.read_number.ensures.0 (omega arith)
