@@ -4,6 +4,8 @@ use Rattle.half.specs.Modes.{mode_of_bits}
 use Rattle.half.specs.declared.Mode.{Mode}
 use Rattle.evex.specs.Bits.{bits}
 use Rattle.machine.specs.declared.Answer.{Answer}
+use Rattle.machine.specs.declared.Registers.{Registers}
+use Rattle.machine.specs.declared.Machine.{Machine}
 
 -- R1.1: the vector file as its bytes (R1.2), the masks and general registers (R1.4) as lists of numbers, the control word (R1.5) and the
 -- pointer (R1.7). The lists may have any length; a register that they do not have reads as 0.
@@ -23,6 +25,13 @@ pub record Stepped : Type 0 where
 abbrev pub state_of : List ℕ → List ℕ → List ℕ → ℕ → ℕ → State
 state_of vectors masks general control pointer =
     record { vectors = vectors; masks = masks; general = general; control = control; pointer = pointer }
+
+-- the state that a struct of the code holds, and the one that a struct lends
+abbrev pub held_state : Registers → State
+held_state r = state_of r.vectors r.masks r.general r.control r.pointer
+
+abbrev pub lent_state : Machine → State
+lent_state m = state_of m.vectors.now m.masks.now m.general.now m.control.now m.pointer.now
 
 abbrev pub stepped_of : Answer → List ℕ → List ℕ → List ℕ → ℕ → ℕ → Stepped
 stepped_of answer vectors masks general control pointer =

@@ -12,6 +12,26 @@ pub struct Answer {
     pub length: u32,
 }
 
+// A state of our own (R1.1): the vector file, the masks and general registers, the control word, the pointer.
+#[derive(Drop)]
+pub struct Registers {
+    pub vectors: [u8; 2048],
+    pub masks: [u64; 8],
+    pub general: [u64; 16],
+    pub control: u32,
+    pub pointer: u64,
+}
+
+// A state as it is lent to a step: the vector file has its size (R4.3), and the general registers are only read (R1.4).
+#[derive(Drop)]
+pub struct Machine<'a> {
+    pub vectors: &'a mut [u8; 2048],
+    pub masks: &'a mut [u64; 8],
+    pub general: &'a [u64; 16],
+    pub control: &'a mut u32,
+    pub pointer: &'a mut u64,
+}
+
 // Where the second source is (R5.3, R5.5): a vector register, or the words of memory from an address on, with broadcast the one there.
 #[derive(Clone, Copy)]
 pub enum Located {
