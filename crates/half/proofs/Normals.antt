@@ -1,6 +1,6 @@
 -- Normal operands, those of the short way: finite, not zero, and no DE.
 use Prim.Native.Nat.{ℕ, ◌+◌, ◌*◌, ◌/◌, ◌%◌, ◌^◌, ◌≤◌, ◌<◌}
-use mathlib.Core.Bool.{Bool, true, false, not, ◌&&◌}
+use mathlib.Core.Bool.{Bool, true, false, cond, not, ◌&&◌}
 use mathlib.Core.Path.{◌≡◌, refl, sym, ap, ◌∙◌}
 use native.Mathlib.Omega.{arith}
 use native.Mathlib.Nat.{mul-le-mul, mul-mod_left}
@@ -15,6 +15,9 @@ use Rattle.half.specs.Round.{outcome, rounded_half}
 use Rattle.half.specs.Operations.{unlike, exact_sum, half_add, half_multiply, half_divide, half_root, half_multiply_add}
 use Rattle.half.specs.Work.{is_normal}
 use Rattle.half.specs.declared.Mode.{Mode}
+use Rattle.half.specs.declared.normal.Normal.{Normal}
+use Rattle.std.specs.Prelude.{Option, None, Some}
+use Rattle.std.specs.Option.{option_map}
 use Rattle.half.specs.declared.Outcome.{Outcome}
 use Rattle.half.proofs.Places.{pow_join}
 use Rattle.half.proofs.Units.{lift, significand_lt}
@@ -43,10 +46,14 @@ normal_test h = rw (and_mask ((h + 1024) / 2048) 4) (go (ltb 0 (exponent_field h
         let k : (h + 1024) / 2048 ≡ h / 1024 / 32 * 16 = omega arith in
         rw (eq-eqb ((h + 1024) / 2048 % 16) 0 (ap (λ (n : ℕ). n % 16) k ∙ mul-mod_left (h / 1024 / 32) 16))
 
-pub all_normal : (a b c : ℕ) {p q r : Bool} → p ≡ is_normal a → q ≡ is_normal b → r ≡ is_normal c → (p && (q && r)) ≡ true
-    → (is_normal a ≡ true) × (is_normal b ≡ true) × (is_normal c ≡ true)
-all_normal a b c {p} {q} {r} hp hq hr e =
-    let f : (q && r) ≡ true = and_right p (q && r) e in (sym hp ∙ and_left p (q && r) e, sym hq ∙ and_left q r f, sym hr ∙ and_right q r f)
+-- and as the code hands it on
+pub normal_is : (h : ℕ) {r : Option Normal} {x : Normal} → option_map (λ (n : Normal). n.half) r ≡ cond (is_normal h) (Some h) None
+    → r ≡ Some x → x.half ≡ h
+normal_is h {r} {x} e is = go (is_normal h) (sym (ap (option_map (λ (n : Normal). n.half)) is) ∙ e)
+  where
+    go : (t : Bool) → Some x.half ≡ cond t (Some h) None → x.half ≡ h
+    go true f = search (f)
+    go false f = search (f)
 
 -- ---- what a normal half is, and is not
 module _ (h : ℕ) (n : is_normal h ≡ true) where

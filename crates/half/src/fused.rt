@@ -4,6 +4,7 @@ ghost use Rattle.half.specs.Format.{is_finite, negative, units};
 ghost use Rattle.half.specs.Operations.{exact_sum, unlike, half_multiply_add};
 ghost use Rattle.half.specs.Work.{is_normal, Summed};
 
+use super::normal::Normal;
 use super::{Mode, Outcome, fields, normal, operands, product, sum};
 
 // a * b + c for finite halves: in units of 2^-27 where the product is a multiple of 2^-26, else of 2^-48.
@@ -68,26 +69,25 @@ fn any_fused(mode: Mode, unmasked_ue: bool, a: u16, b: u16, c: u16) -> Outcome
 }
 
 // a * b and c added.
-fn normal_fused(a: u16, b: u16, c: u16) -> normal::Sum
-    requires { (is_normal a ≡ true) × (is_normal b ≡ true) × (is_normal c ≡ true) }
-    ensures { Summed (unlike a b) (units a * units b * 2 ^ 9) (negative c) (units c * 2 ^ 33) result }
+fn normal_fused(a: Normal, b: Normal, c: Normal) -> normal::Sum
+    ensures { Summed (unlike a.half b.half) (units a.half * units b.half * 2 ^ 9) (negative c.half) (units c.half * 2 ^ 33) result }
 {
-    let x = normal::product_of(a, b);
-    let i = normal::exponent_of(a) + normal::exponent_of(b) + 7;
-    let y = normal::significand_of(c);
-    let j = normal::exponent_of(c) + 32;
-    let neg = operands::unlike_signs(a, b);
-    let sc = fields::sign_of(c);
+    let x = a.product(b);
+    let i = a.exponent() + b.exponent() + 7;
+    let y = c.significand();
+    let j = c.exponent() + 32;
+    let neg = operands::unlike_signs(a.half, b.half);
+    let sc = fields::sign_of(c.half);
     sum::shifted_sum(neg, x, i, sc, y, j)
 }
 
 pub fn multiply_add(mode: Mode, unmasked_ue: bool, a: u16, b: u16, c: u16) -> Outcome
     ensures { result ≡ half_multiply_add mode unmasked_ue a b c }
 {
-    if !(normal::is_normal(a) & (normal::is_normal(b) & normal::is_normal(c))) {
+    let (Some(x), Some(y), Some(z)) = (Normal::of(a), Normal::of(b), Normal::of(c)) else {
         return any_fused(mode, unmasked_ue, a, b, c);
-    }
-    let s = normal_fused(a, b, c);
+    };
+    let s = normal_fused(x, y, z);
     if !normal::is_large(s.digits, s.exponent) {
         return any_fused(mode, unmasked_ue, a, b, c);
     }

@@ -1,7 +1,8 @@
 // The short way of normal operands, whose exponent fields are 1 to 30: no zero, no subnormal, nothing special. Digits and exponent stay
 // apart: a magnitude is m * 2^e in units of 2^-57, so small that no exponent goes below 0. Operations call what serves any operands at two
 // places or more: the back end puts a function that is called once into its caller, however large.
-ghost use Rattle.std.specs.Prelude.{◌≡◌, ◌<◌, ◌≤◌, ◌+◌, ◌*◌, ◌^◌, Bool, true, leb};
+ghost use Rattle.std.specs.Prelude.{◌≡◌, ◌<◌, ◌≤◌, ◌+◌, ◌*◌, ◌^◌, Bool, true, leb, cond, None, Some};
+ghost use Rattle.std.specs.Option.{option_map};
 ghost use Rattle.half.specs.Format.{exponent_field, significand, units};
 ghost use Rattle.half.specs.Exact.{ratio};
 ghost use Rattle.half.specs.Round.{rounded_half};
@@ -18,40 +19,54 @@ pub struct Sum {
 }
 
 // With one added to the exponent field, the four bits above its lowest are 0 for 0 and 31 alone.
-pub fn is_normal(h: u16) -> bool
+fn is_normal(h: u16) -> bool
     ensures { result ≡ is_normal h }
 {
     ((((h as u32) + 1024) >> 11) & 15) != 0
 }
 
-pub fn significand_of(h: u16) -> u64
-    requires { is_normal h ≡ true }
-    ensures { (result ≡ significand h) × (1024 ≤ result) × (result < 2048) }
-{
-    1024 + (fields::fraction_of(h) as u64)
+// A half that is normal.
+#[derive(Clone, Copy)]
+pub struct Normal {
+    pub half: u16,
+    pub ghost normal: { is_normal half ≡ true },
 }
 
-pub fn exponent_of(h: u16) -> u32
-    requires { is_normal h ≡ true }
-    ensures { (result ≡ exponent_field h) × (1 ≤ result) × (result < 31) }
-{
-    fields::exponent_of(h) as u32
-}
+impl Normal {
+    pub fn of(h: u16) -> Option<Normal>
+        ensures { option_map (λ (x : Normal). x.half) result ≡ cond (is_normal h) (Some h) None }
+    {
+        if is_normal(h) {
+            return Some(Normal { half: h });
+        }
+        None
+    }
 
-// The magnitude times 2^25.
-pub fn magnitude(h: u16) -> u64
-    requires { is_normal h ≡ true }
-    ensures { (result ≡ units h * 2) × (result < 2 ^ 41) }
-{
-    significand_of(h) << exponent_of(h)
-}
+    pub fn significand(self) -> u64
+        ensures { (result ≡ significand self.half) × (1024 ≤ result) × (result < 2048) }
+    {
+        1024 + (fields::fraction_of(self.half) as u64)
+    }
 
-// All the digits of a product, 21 or 22.
-pub fn product_of(a: u16, b: u16) -> u64
-    requires { (is_normal a ≡ true) × (is_normal b ≡ true) }
-    ensures { (result ≡ significand a * significand b) × (2 ^ 20 ≤ result) × (result < 2 ^ 22) }
-{
-    significand_of(a) * significand_of(b)
+    pub fn exponent(self) -> u32
+        ensures { (result ≡ exponent_field self.half) × (1 ≤ result) × (result < 31) }
+    {
+        fields::exponent_of(self.half) as u32
+    }
+
+    // The magnitude times 2^25.
+    pub fn magnitude(self) -> u64
+        ensures { (result ≡ units self.half * 2) × (result < 2 ^ 41) }
+    {
+        self.significand() << self.exponent()
+    }
+
+    // All the digits of a product, 21 or 22.
+    pub fn product(self, other: Normal) -> u64
+        ensures { (result ≡ significand self.half * significand other.half) × (2 ^ 20 ≤ result) × (result < 2 ^ 22) }
+    {
+        self.significand() * other.significand()
+    }
 }
 
 // R6.18, R6.20: z * 2^k / 2^26 rounded, for a z of 13 digits, the last of which says whether something is left below (specs/Work.antt,

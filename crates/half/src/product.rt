@@ -5,6 +5,7 @@ ghost use Rattle.half.specs.Format.{is_finite, is_infinite, is_zero, units, expo
 ghost use Rattle.half.specs.Operations.{half_multiply};
 ghost use Rattle.half.specs.Work.{place, is_normal, Scaled};
 
+use super::normal::Normal;
 use super::{Mode, Outcome, fields, normal, operands, rounding};
 
 // The product of two significands, and how far its lowest bit lies above 2^-26 (raised) or below.
@@ -89,13 +90,12 @@ fn any_product(mode: Mode, unmasked_ue: bool, a: u16, b: u16) -> Outcome
 }
 
 // The product of two significands has 21 digits or 22: from the exponent 23 on it is large.
-fn normal_product(mode: Mode, unmasked_ue: bool, a: u16, b: u16) -> Outcome
-    requires { (is_normal a ≡ true) × (is_normal b ≡ true) }
-    ensures { result ≡ half_multiply mode unmasked_ue a b }
+fn normal_product(mode: Mode, unmasked_ue: bool, a: Normal, b: Normal) -> Outcome
+    ensures { result ≡ half_multiply mode unmasked_ue a.half b.half }
 {
-    let m = normal::product_of(a, b);
-    let e = normal::exponent_of(a) + normal::exponent_of(b) + 7;
-    let neg = operands::unlike_signs(a, b);
+    let m = a.product(b);
+    let e = a.exponent() + b.exponent() + 7;
+    let neg = operands::unlike_signs(a.half, b.half);
     if e < 23 {
         return normal::round_small(mode, unmasked_ue, neg, m, e);
     }
@@ -105,11 +105,11 @@ fn normal_product(mode: Mode, unmasked_ue: bool, a: u16, b: u16) -> Outcome
 pub fn multiply(mode: Mode, unmasked_ue: bool, a: u16, b: u16) -> Outcome
     ensures { result ≡ half_multiply mode unmasked_ue a b }
 {
-    if !normal::is_normal(a) {
+    let Some(x) = Normal::of(a) else {
         return any_product(mode, unmasked_ue, a, b);
-    }
-    if !normal::is_normal(b) {
+    };
+    let Some(y) = Normal::of(b) else {
         return any_product(mode, unmasked_ue, a, b);
-    }
-    normal_product(mode, unmasked_ue, a, b)
+    };
+    normal_product(mode, unmasked_ue, x, y)
 }

@@ -6,6 +6,7 @@ ghost use Rattle.half.specs.Round.{rounded_half};
 ghost use Rattle.half.specs.Operations.{half_divide};
 ghost use Rattle.half.specs.Work.{place, is_normal};
 
+use super::normal::Normal;
 use super::{Mode, Outcome, ZE, fields, normal, operands, rounding};
 
 // The significand of a, in the smaller one of the units of a's and b's significands.
@@ -86,14 +87,13 @@ fn any_quotient(mode: Mode, unmasked_ue: bool, a: u16, b: u16) -> Outcome
 }
 
 // The place of the quotient of two significands, times 2^21, has 22 digits or 23: from the exponent 22 on the quotient is large.
-fn normal_quotient(mode: Mode, unmasked_ue: bool, a: u16, b: u16) -> Outcome
-    requires { (is_normal a ≡ true) × (is_normal b ≡ true) }
-    ensures { result ≡ half_divide mode unmasked_ue a b }
+fn normal_quotient(mode: Mode, unmasked_ue: bool, a: Normal, b: Normal) -> Outcome
+    ensures { result ≡ half_divide mode unmasked_ue a.half b.half }
 {
-    let e = normal::exponent_of(a) + 35 - normal::exponent_of(b);
-    let n = normal::significand_of(a) * 0x20_0000;
-    let m = quotient_place(n, normal::significand_of(b));
-    let neg = operands::unlike_signs(a, b);
+    let e = a.exponent() + 35 - b.exponent();
+    let n = a.significand() * 0x20_0000;
+    let m = quotient_place(n, b.significand());
+    let neg = operands::unlike_signs(a.half, b.half);
     if e < 22 {
         return normal::round_small(mode, unmasked_ue, neg, m, e);
     }
@@ -103,11 +103,11 @@ fn normal_quotient(mode: Mode, unmasked_ue: bool, a: u16, b: u16) -> Outcome
 pub fn divide(mode: Mode, unmasked_ue: bool, a: u16, b: u16) -> Outcome
     ensures { result ≡ half_divide mode unmasked_ue a b }
 {
-    if !normal::is_normal(a) {
+    let Some(x) = Normal::of(a) else {
         return any_quotient(mode, unmasked_ue, a, b);
-    }
-    if !normal::is_normal(b) {
+    };
+    let Some(y) = Normal::of(b) else {
         return any_quotient(mode, unmasked_ue, a, b);
-    }
-    normal_quotient(mode, unmasked_ue, a, b)
+    };
+    normal_quotient(mode, unmasked_ue, x, y)
 }

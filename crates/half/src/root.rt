@@ -7,6 +7,7 @@ ghost use Rattle.half.specs.Round.{rounded_half};
 ghost use Rattle.half.specs.Operations.{half_root};
 ghost use Rattle.half.specs.Work.{is_normal, root_place};
 
+use super::normal::Normal;
 use super::{Mode, Outcome, fields, normal, operands};
 
 // A line that stays near the root of n, for an n of 23 digits one, for 24 (long) another: start + rise / 2^24. It is off by less than 20
@@ -115,12 +116,12 @@ fn any_root(mode: Mode, a: u16) -> Outcome
 }
 
 // Of a normal half the exponent says by how much the significand is to be raised.
-fn normal_root(mode: Mode, a: u16) -> Outcome
-    requires { (is_normal a ≡ true) × (negative a ≡ false) }
-    ensures { (unmasked_ue : Bool) → result ≡ half_root mode unmasked_ue a }
+fn normal_root(mode: Mode, a: Normal) -> Outcome
+    requires { negative a.half ≡ false }
+    ensures { (unmasked_ue : Bool) → result ≡ half_root mode unmasked_ue a.half }
 {
-    let e = normal::exponent_of(a);
-    let z = root_place(normal::significand_of(a) << (13 - e % 2));
+    let e = a.exponent();
+    let z = root_place(a.significand() << (13 - e % 2));
     normal::packed(mode, false, z, (e + 13) / 2)
 }
 
@@ -130,8 +131,8 @@ pub fn square_root(mode: Mode, unmasked_ue: bool, a: u16) -> Outcome
     if fields::sign_of(a) {
         return special_root(a);
     }
-    if !normal::is_normal(a) {
+    let Some(x) = Normal::of(a) else {
         return any_root(mode, a);
-    }
-    normal_root(mode, a)
+    };
+    normal_root(mode, x)
 }

@@ -4,6 +4,7 @@ ghost use Rattle.half.specs.Format.{is_finite, is_nan, negative, negated, units,
 ghost use Rattle.half.specs.Work.{place, is_normal, sum_magnitude, sum_sign, Summed};
 ghost use Rattle.half.specs.Operations.{cancelled, exact_sum, half_add, half_subtract};
 
+use super::normal::Normal;
 use super::{Mode, Outcome, fields, normal, operands, rounding};
 
 // R6.12: the zero that terms of unlike signs give.
@@ -128,14 +129,13 @@ fn any_sum(mode: Mode, unmasked_ue: bool, a: u16, b: u16) -> Outcome
 }
 
 // Two normal halves have their digits in 64 bits, at one exponent.
-fn normal_sum(a: u16, b: u16) -> normal::Sum
-    requires { (is_normal a ≡ true) × (is_normal b ≡ true) }
-    ensures { Summed (negative a) (units a * 2 ^ 33) (negative b) (units b * 2 ^ 33) result }
+fn normal_sum(a: Normal, b: Normal) -> normal::Sum
+    ensures { Summed (negative a.half) (units a.half * 2 ^ 33) (negative b.half) (units b.half * 2 ^ 33) result }
 {
-    let x = normal::magnitude(a);
-    let y = normal::magnitude(b);
-    let sx = fields::sign_of(a);
-    let sy = fields::sign_of(b);
+    let x = a.magnitude();
+    let y = b.magnitude();
+    let sx = fields::sign_of(a.half);
+    let sy = fields::sign_of(b.half);
     normal::Sum {
         neg: sign_of_larger(sx, x, sy, y),
         digits: total(sx == sy, x, y),
@@ -167,13 +167,13 @@ pub(crate) fn shifted_sum(sx: bool, x: u64, i: u32, sy: bool, y: u64, j: u32) ->
 pub fn add(mode: Mode, unmasked_ue: bool, a: u16, b: u16) -> Outcome
     ensures { result ≡ half_add mode unmasked_ue a b }
 {
-    if !normal::is_normal(a) {
+    let Some(x) = Normal::of(a) else {
         return any_sum(mode, unmasked_ue, a, b);
-    }
-    if !normal::is_normal(b) {
+    };
+    let Some(y) = Normal::of(b) else {
         return any_sum(mode, unmasked_ue, a, b);
-    }
-    let s = normal_sum(a, b);
+    };
+    let s = normal_sum(x, y);
     if !normal::is_large(s.digits, s.exponent) {
         return any_sum(mode, unmasked_ue, a, b);
     }

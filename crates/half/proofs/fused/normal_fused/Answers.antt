@@ -3,10 +3,10 @@ use Rattle.half.proofs.fused.normal_fused.Goals as goal
 
 pub returns : goal.returns
 returns c =
-    let product_of = c.product_of-x in
-    let exponent_of = c.exponent_of in
-    let exponent_of2 = c.exponent_of-2 in
-    let significand_of = c.significand_of-y in
-    let p = c.requires in normal_fused c.args.a c.args.b c.args.c p.0 p.1 p.2 product_of.ensures.0
-    exponent_of.ensures.0 exponent_of2.ensures.0 significand_of.ensures.0 c.exponent_of-j.ensures.0
+    let product_of = c.product-x in
+    let exponent_of = c.exponent in
+    let exponent_of2 = c.exponent-2 in
+    let significand_of = c.significand-y in
+    normal_fused c.args.a.half c.args.b.half c.args.c.half c.args.a.normal c.args.b.normal c.args.c.normal product_of.ensures.0
+    exponent_of.ensures.0 exponent_of2.ensures.0 significand_of.ensures.0 c.exponent-j.ensures.0
     c.unlike_signs-neg.ensures c.sign_of-sc.ensures c.shifted_sum.ensures

@@ -6,16 +6,16 @@ use Rattle.half.proofs.root.normal_root.Goals as goal
 
 pub root_place-z-requires : goal.root_place-z-requires
 root_place-z-requires c =
-    normal_radicand_lt c.args.a c.requires.0 c.significand_of.ensures
-    c.exponent_of-e.ensures.0
+    normal_radicand_lt c.args.a.half c.args.a.normal c.significand.ensures
+    c.exponent-e.ensures.0
 
 pub packed-requires : goal.packed-requires
 packed-requires c =
-    let r = root_digits (normal_radicand c.args.a c.requires.0 c.significand_of.ensures
-    c.exponent_of-e.ensures.0 c.root_place-z.ensures) in (r.0, r.1, omega arith)
+    let r = root_digits (normal_radicand c.args.a.half c.args.a.normal c.significand.ensures
+    c.exponent-e.ensures.0 c.root_place-z.ensures) in (r.0, r.1, omega arith)
 
 pub returns : goal.returns
 returns c =
-    λ u. root_rounds (normal_radicand c.args.a c.requires.0 c.significand_of.ensures
-    c.exponent_of-e.ensures.0 c.root_place-z.ensures) _ _ c.packed.ensures u
-    ∙ sym (normal_root _ u c.args.a c.requires.0 c.requires.1)
+    λ u. root_rounds (normal_radicand c.args.a.half c.args.a.normal c.significand.ensures
+    c.exponent-e.ensures.0 c.root_place-z.ensures) _ _ c.packed.ensures u
+    ∙ sym (normal_root _ u c.args.a.half c.args.a.normal c.requires)
