@@ -13,8 +13,8 @@ use borrow.Author.Tests.{leb-false, lt-ltb, le-ltb, ltb-true, ltb-false}
 use mir.Syntax.{w32}
 use mir.Val.{SFits, Fits, to_z, of_z}
 use mir.Facts.{to_z-of_z, to_z_pos, Fits-nat_abs}
-use Rattle.half.specs.Work.{place, scale, Scaled}
-use Rattle.half.specs.declared.product.Product.{Product}
+use Rattle.half.specs.Work.{Shifted, place, scale, Scaled}
+use Rattle.half.specs.declared.product.Shift.TheVariants.{Above, Below}
 use Rattle.half.specs.Format.{significand, units}
 use Rattle.half.proofs.Places.{pow_join, place_scale, place_two}
 use Rattle.half.proofs.Units.{lift, lift_le, significand_lt}
@@ -159,19 +159,17 @@ module _ (a b : ℕ) {x y : ℕ} (hx : x ≡ significand a) (hy : y ≡ signific
     e_same = rw he (sub_whole (lift a + lift b) 22 (omega (arith, lift_le a, lift_le b)) (omega arith))
 
     pub raised : le_z (pos 0) (to_z w32 (of_z w32 e)) ≡ true
-        → Scaled a b (record { significand = x * y; raised = true; by = nat_abs (to_z w32 (of_z w32 e)) })
+        → Scaled a b (record { significand = x * y; shift = Above (nat_abs (to_z w32 (of_z w32 e))) })
     raised l =
         let g : 22 ≤ lift a + lift b = sub_nonneg (lift a + lift b) 22 (rw e_same at l) in
         let k : nat_abs (to_z w32 (of_z w32 e)) ≡ lift a + lift b - 22 = rw e_same (distance_up (lift a + lift b) 22 g) in
         record {
           small = product_lt;
-          up =
-              λ _. (
-                omega (arith, lift_le a, lift_le b),
-                joined ∙ ap (λ (n : ℕ). x * y * 2 ^ n)
-                    (let f : lift a + lift b ≡ nat_abs (to_z w32 (of_z w32 e)) + 22 = omega arith in f),
-              );
-          down = λ f. absurd (clash f);
+          shifted = (
+            omega (arith, lift_le a, lift_le b),
+            joined ∙ ap (λ (n : ℕ). x * y * 2 ^ n)
+                (let f : lift a + lift b ≡ nat_abs (to_z w32 (of_z w32 e)) + 22 = omega arith in f),
+          );
         }
 
     e_fits : SFits w32 e
@@ -194,57 +192,52 @@ module _ (a b : ℕ) {x y : ℕ} (hx : x ≡ significand a) (hy : y ≡ signific
       pub cast_down : T (non_neg (to_z w32 (of_z w32 down))) × Fits w32 (nat_abs (to_z w32 (of_z w32 down)))
       cast_down = minus_cast e e_fits e_small l
 
-      pub lowered : Scaled a b (record { significand = x * y; raised = false; by = nat_abs (to_z w32 (of_z w32 down)) })
+      pub lowered : Scaled a b (record { significand = x * y; shift = Below (nat_abs (to_z w32 (of_z w32 down))) })
       lowered =
           let k : ℕ = nat_abs (to_z w32 (of_z w32 down)) in
           let g : lift a + lift b < 22 = sub_negative (lift a + lift b) 22 (rw e_same at l) in
           let d : k ≡ 22 - (lift a + lift b) = minus_is e e_fits e_small l ∙ rw he (distance_down (lift a + lift b) 22 g) in
           record {
             small = product_lt;
-            up = λ f. absurd (clash (sym f));
-            down = λ _. (
+            shifted = (
               omega arith,
               omega arith,
               ap (λ (n : ℕ). n * 2 ^ k) joined ∙ pow_join (x * y) (lift a + lift b) k (let f : lift a + lift b + k ≡ 22 = omega arith in f),
             );
           }
 
--- ---- what a scaled product is used for
-module _ {a b : ℕ} {p : Product} (s : Scaled a b p) where
-  module _ (r : p.raised ≡ true) where
-    shl_up : 2 * p.significand * 2 ^ p.by % 2 ^ 64 ≡ 2 * p.significand * 2 ^ p.by
-    shl_up = shl_exact {a = 2 * p.significand} 23 p.by 64 (omega (arith, s.small)) (omega (arith, (s.up r).0))
+-- ---- what a scaled product is used for: n units for the magnitude m
+module _ (m n : ℕ) (n_lt : n < 2 ^ 22) (k : ℕ) where
+  module _ (s : Shifted m n (Above k)) where
+    shl_up : 2 * n * 2 ^ k % 2 ^ 64 ≡ 2 * n * 2 ^ k
+    shl_up = shl_exact {a = 2 * n} 23 k 64 (omega arith) (omega (arith, s.0))
 
-    pub up_lt : 2 * p.significand * 2 ^ p.by % 2 ^ 64 < 2 ^ 61
-    up_lt =
-        rw shl_up (lt_of_lt_of_le (shl_lt {a = 2 * p.significand} 23 p.by (omega (arith, s.small)))
-        (pow_mono {i = 23 + p.by} {j = 61} (omega (arith, (s.up r).0))))
+    pub up_lt : 2 * n * 2 ^ k % 2 ^ 64 < 2 ^ 61
+    up_lt = rw shl_up (lt_of_lt_of_le (shl_lt {a = 2 * n} 23 k (omega arith)) (pow_mono {i = 23 + k} {j = 61} (omega (arith, s.0))))
 
-    pub up_units : 2 * p.significand * 2 ^ p.by % 2 ^ 64 * 2 ^ 21 ≡ units a * units b
-    up_units = rw (shl_up, (s.up r).1, pow-add 2 p.by 22) (omega arith)
+    pub up_units : 2 * n * 2 ^ k % 2 ^ 64 * 2 ^ 21 ≡ m
+    up_units = rw (shl_up, s.1, pow-add 2 k 22) (omega arith)
 
-    pub up_place : 2 * p.significand * 2 ^ p.by % 2 ^ 64 ≡ place (units a * units b) (2 ^ 22)
+    pub up_place : 2 * n * 2 ^ k % 2 ^ 64 ≡ place m (2 ^ 22)
     up_place =
-        sym (ap (λ (n : ℕ). place n (2 ^ 22)) (sym up_units) ∙ place_scale (2 * p.significand * 2 ^ p.by % 2 ^ 64) 2 (2 ^ 21)
-        (omega arith) (omega arith) ∙ place_two (2 * p.significand * 2 ^ p.by % 2 ^ 64))
+        sym (ap (λ (v : ℕ). place v (2 ^ 22)) (sym up_units) ∙ place_scale (2 * n * 2 ^ k % 2 ^ 64) 2 (2 ^ 21)
+        (omega arith) (omega arith) ∙ place_two (2 * n * 2 ^ k % 2 ^ 64))
 
-  module _ (r : p.raised ≡ false) where
-    pub down_place : place p.significand (2 ^ p.by) ≡ place (units a * units b) (2 ^ 22)
+  module _ (s : Shifted m n (Below k)) where
+    pub down_place : place n (2 ^ k) ≡ place m (2 ^ 22)
     down_place =
-        sym (place_scale p.significand (2 ^ p.by) (2 ^ 22) (pow_pos p.by) (omega arith))
-        ∙ rw (← (s.down r).2, mul_comm (2 ^ p.by) (2 ^ 22))
-        (place_scale (units a * units b) (2 ^ 22) (2 ^ p.by) (omega arith) (pow_pos p.by))
+        sym (place_scale n (2 ^ k) (2 ^ 22) (pow_pos k) (omega arith))
+        ∙ rw (← s.2, mul_comm (2 ^ k) (2 ^ 22)) (place_scale m (2 ^ 22) (2 ^ k) (omega arith) (pow_pos k))
 
-    shifted : p.significand * 2 ^ (22 - p.by) ≡ units a * units b
+    shifted : n * 2 ^ (22 - k) ≡ m
     shifted =
-        let w : 2 ^ 22 ≡ 2 ^ (22 - p.by) * 2 ^ p.by =
-        ap (λ (n : ℕ). 2 ^ n) (let f : 22 ≡ 22 - p.by + p.by = omega (arith, (s.down r).1) in f) ∙ pow-add 2 (22 - p.by) p.by in
-        eq_of_mul-eq-mul_right (2 ^ p.by) (pow_pos p.by) (p.significand * 2 ^ (22 - p.by)) (units a * units b)
-        (mul_assoc p.significand (2 ^ (22 - p.by)) (2 ^ p.by) ∙ ap (λ (n : ℕ). p.significand * n) (sym w) ∙ sym (s.down r).2)
+        let w : 2 ^ 22 ≡ 2 ^ (22 - k) * 2 ^ k =
+        ap (λ (v : ℕ). 2 ^ v) (let f : 22 ≡ 22 - k + k = omega (arith, s.1) in f) ∙ pow-add 2 (22 - k) k in
+        eq_of_mul-eq-mul_right (2 ^ k) (pow_pos k) (n * 2 ^ (22 - k)) m
+        (mul_assoc n (2 ^ (22 - k)) (2 ^ k) ∙ ap (λ (v : ℕ). n * v) (sym w) ∙ sym s.2)
 
-    pub down_units : (p.significand * 2 ^ (22 - p.by) % 2 ^ 64 ≡ units a * units b) × (units a * units b < 2 ^ 44)
+    pub down_units : (n * 2 ^ (22 - k) % 2 ^ 64 ≡ m) × (m < 2 ^ 44)
     down_units =
-        let w : p.significand * 2 ^ (22 - p.by) < 2 ^ 44 =
-        lt_of_lt_of_le (shl_lt {a = p.significand} 22 (22 - p.by) s.small)
-        (pow_mono {i = 22 + (22 - p.by)} {j = 44} (omega (arith, (s.down r).0))) in
+        let w : n * 2 ^ (22 - k) < 2 ^ 44 =
+        lt_of_lt_of_le (shl_lt {a = n} 22 (22 - k) n_lt) (pow_mono {i = 22 + (22 - k)} {j = 44} (omega (arith, s.0))) in
         (mod-eq_of_lt (omega arith) ∙ shifted, rw (← shifted) w)

@@ -30,15 +30,6 @@ beq_eq true false e = cc
 beq_eq false true e = cc
 beq_eq false false e = refl
 
--- ---- the larger one and the smaller one of x and y
-module _ (x y : ℕ) {l s : ℕ} (hl : l ≡ cond (ltb x y) y x) (hs : s ≡ cond (ltb x y) x y) where
-  ordered : (b : Bool) → ltb x y ≡ b → l ≡ cond b y x → s ≡ cond b x y → (s ≤ l) × (l + s ≡ x + y) × (l - s ≡ cond b (y - x) (x - y))
-  ordered true e p q = let h : x < y = ltb-true _ _ e in (omega arith, omega arith, rw (p, q))
-  ordered false e p q = let h : y ≤ x = ltb-false _ _ e in (omega arith, omega arith, rw (p, q))
-
-  pub both : (s ≤ l) × (l + s ≡ x + y) × (l - s ≡ cond (ltb x y) (y - x) (x - y))
-  both = ordered (ltb x y) refl hl hs
-
 -- ---- the magnitude of a sum, where it is not 0, rounds as the sum does
 sum_rounded : (mode : Mode) (unmasked_ue sx : Bool) (x : ℕ) (sy : Bool) (y d : ℕ) → 0 < sum_magnitude (beq sx sy) x y
     → rounded_half mode unmasked_ue (sum_sign sx x sy y) (ratio (sum_magnitude (beq sx sy) x y) d) ≡ exact_sum mode unmasked_ue sx x sy y d

@@ -1,7 +1,7 @@
 -- No clause: used by the code's private functions, and nothing here has to be believed. Laws tie it to the definitions
 -- (proofs/Bridge.antt).
 -- The place of a number v ≥ 0 among the whole numbers: 2 c where v is c, and 2 c + 1 where v lies between c and c + 1.
-use Rattle.std.specs.Prelude.{ℕ, ◌+◌, ◌-◌, ◌*◌, ◌/◌, ◌%◌, ◌^◌, ◌<◌, ◌≤◌, min, Bool, true, false, ◌&&◌, ◌||◌, cond, [], ◌∷◌, ◌≡◌, ltb, ℤ}
+use Rattle.std.specs.Prelude.{ℕ, ◌+◌, ◌-◌, ◌*◌, ◌/◌, ◌%◌, ◌^◌, ◌<◌, ◌≤◌, min, Bool, ◌&&◌, ◌||◌, cond, [], ◌∷◌, ◌≡◌, ltb, ℤ}
 use Rattle.std.specs.Bool.{beq}
 use Rattle.std.proofs.Math.IntN.{sub_ℕ}
 use Rattle.lists.specs.Lists.{some}
@@ -12,6 +12,8 @@ use Rattle.half.specs.Comparison.{relation, comparison_flags, holds}
 use Rattle.half.specs.declared.Outcome.{Outcome}
 use Rattle.half.specs.declared.comparison.Predicate.{Predicate}
 use Rattle.half.specs.declared.product.Product.{Product}
+use Rattle.half.specs.declared.product.Shift.{Shift}
+use Rattle.half.specs.declared.product.Shift.TheVariants.{Above, Below}
 use Rattle.half.specs.declared.normal.Sum.{Sum}
 
 -- 1 where something is left, else 0
@@ -34,11 +36,15 @@ scale h = sub_ℕ (exponent_field h - 1) 24
 abbrev pub is_normal : ℕ → Bool
 is_normal h = ltb 0 (exponent_field h) && ltb (exponent_field h) 31
 
--- p is the product of the significands of a and b, and by how many digits its unit lies above 2 ^ -26 or below
+-- the magnitude m / 2 ^ 48 is n units, which lie as far above 2 ^ -26 or below as the shift says
+abbrev pub Shifted : ℕ → ℕ → Shift → Type 0
+Shifted m n (Above k) = (k ≤ 38) × (m ≡ n * 2 ^ (k + 22))
+Shifted m n (Below k) = (1 ≤ k) × (k ≤ 22) × (m * 2 ^ k ≡ n * 2 ^ 22)
+
+-- p is the product of the significands of a and b, with its unit
 pub record Scaled (a b : ℕ) (p : Product) : Type 0 where
   pub small : p.significand < 2 ^ 22
-  pub up : p.raised ≡ true → (p.by ≤ 38) × (units a * units b ≡ p.significand * 2 ^ (p.by + 22))
-  pub down : p.raised ≡ false → (1 ≤ p.by) × (p.by ≤ 22) × (units a * units b * 2 ^ p.by ≡ p.significand * 2 ^ 22)
+  pub shifted : Shifted (units a * units b) p.significand p.shift
 
 -- the magnitude of ± x and ± y added, by whether their signs are like, and its sign where it is not 0
 abbrev pub sum_magnitude : Bool → ℕ → ℕ → ℕ

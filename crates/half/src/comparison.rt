@@ -7,6 +7,7 @@ ghost use Rattle.lists.specs.Lists.{some};
 ghost use Rattle.half.specs.Comparison.{relation, comparison_flags, half_minimum, half_maximum, holds, predicate_of, half_compare};
 ghost use Rattle.half.specs.Work.{rank_of, picked};
 
+use super::choice::either;
 use super::{DE, IE, Outcome, fields, operands};
 
 // What a predicate answers to each relation (R6.25), and whether it signals a quiet NaN.
@@ -68,12 +69,6 @@ fn any_nan(a: u16, b: u16) -> bool
     operands::any_nan(a, b, b)
 }
 
-fn either(test: bool, yes: bool, no: bool) -> bool
-    ensures { result ≡ cond test yes no }
-{
-    if test { yes } else { no }
-}
-
 fn holds(p: Predicate, a: u16, b: u16) -> bool
     ensures { result ≡ holds p (relation a b) }
 {
@@ -94,12 +89,6 @@ fn flags(invalid: bool, a: u16, b: u16) -> u8
     operands::flag_if(IE, nan & invalid) | operands::flag_if(DE, !nan & subnormal)
 }
 
-fn half_or(test: bool, yes: u16, no: u16) -> u16
-    ensures { result ≡ cond test yes no }
-{
-    if test { yes } else { no }
-}
-
 // What the predicate says, 1 or 0, where it is compared, and else the first half where it says yes, and the second where it says no.
 pub fn picked(p: Predicate, compares: bool, a: u16, b: u16) -> Outcome
     ensures { result ≡ picked p compares a b }
@@ -107,7 +96,7 @@ pub fn picked(p: Predicate, compares: bool, a: u16, b: u16) -> Outcome
     let yes = holds(p, a, b);
     let invalid = (fields::signalling(a) | fields::signalling(b)) | p.signals;
     Outcome {
-        half: half_or(compares, half_or(yes, 1, 0), half_or(yes, a, b)),
+        half: either(compares, either(yes, 1, 0), either(yes, a, b)),
         flags: flags(invalid, a, b),
     }
 }

@@ -5,6 +5,7 @@ ghost use Rattle.half.specs.Operations.{exact_sum, unlike, half_multiply_add};
 ghost use Rattle.half.specs.Work.{is_normal, Summed};
 
 use super::normal::Normal;
+use super::product::Shift;
 use super::{Mode, Outcome, fields, normal, operands, product, sum};
 
 // a * b + c for finite halves: in units of 2^-27 where the product is a multiple of 2^-26, else of 2^-48.
@@ -16,19 +17,16 @@ fn finite_fused(mode: Mode, unmasked_ue: bool, a: u16, b: u16, c: u16) -> Outcom
     let neg = operands::unlike_signs(a, b);
     let sc = fields::sign_of(c);
     let n = fields::magnitude(c);
-    if p.raised {
-        return sum::finite_sum(
-            mode,
-            unmasked_ue,
-            neg,
-            (2 * p.significand) << p.by,
-            sc,
-            n * 8,
-            1,
-        );
+    match p.shift {
+        Shift::Above(k) => {
+            let x = (2 * p.significand) << k;
+            sum::finite_sum(mode, unmasked_ue, neg, x, sc, n * 8, 1)
+        }
+        Shift::Below(k) => {
+            let x = p.significand << (22 - k);
+            sum::finite_sum(mode, unmasked_ue, neg, x, sc, n * 0x100_0000, 22)
+        }
     }
-    let x = p.significand << (22 - p.by);
-    sum::finite_sum(mode, unmasked_ue, neg, x, sc, n * 0x100_0000, 22)
 }
 
 // With a NaN or an infinity, which turns on no mode.

@@ -5,6 +5,7 @@
 ghost use Rattle.std.specs.Prelude.{◌≡◌};
 ghost use Rattle.half.specs.Modes.{mode_of_bits};
 
+pub mod choice;
 pub mod comparison;
 mod fields;
 pub mod fused;
@@ -17,7 +18,7 @@ mod rounding;
 pub mod sum;
 
 // The rounding modes (R6.4), in the order of their numbers.
-#[derive(Clone, Copy)]
+#[derive(Clone, Copy, PartialEq, Eq)]
 pub enum Mode {
     Nearest,
     Down,
@@ -26,7 +27,7 @@ pub enum Mode {
 }
 
 impl Mode {
-    // The mode of two bits.
+    // The mode of two bits, and no From: a number above 3 has no mode (R6.4), and is refused where one comes in (numbers::mode_of).
     pub fn of_bits(bits: u32) -> Mode
         ensures { result ≡ mode_of_bits bits }
     {

@@ -8,12 +8,18 @@ ghost use Rattle.half.specs.Work.{place, is_normal, Scaled};
 use super::normal::Normal;
 use super::{Mode, Outcome, fields, normal, operands, rounding};
 
-// The product of two significands, and how far its lowest bit lies above 2^-26 (raised) or below.
-#[derive(Drop)]
+// How many digits a lowest bit lies above 2^-26, or below.
+#[derive(Clone, Copy)]
+pub(crate) enum Shift {
+    Above(u32),
+    Below(u32),
+}
+
+// The product of two significands, and where its lowest bit lies.
+#[derive(Clone, Copy)]
 pub(crate) struct Product {
     pub significand: u64,
-    pub raised: bool,
-    pub by: u32,
+    pub shift: Shift,
 }
 
 fn product_scale(a: u16, b: u16) -> i32
@@ -30,14 +36,12 @@ pub(crate) fn scaled_product(a: u16, b: u16) -> Product
     if 0 <= e {
         return Product {
             significand: p,
-            raised: true,
-            by: e as u32,
+            shift: Shift::Above(e as u32),
         };
     }
     Product {
         significand: p,
-        raised: false,
-        by: (-e) as u32,
+        shift: Shift::Below((-e) as u32),
     }
 }
 
@@ -46,10 +50,10 @@ fn product_place(a: u16, b: u16) -> u64
     ensures { result ≡ place (units a * units b) (2 ^ 22) }
 {
     let p = scaled_product(a, b);
-    if p.raised {
-        return (2 * p.significand) << p.by;
+    match p.shift {
+        Shift::Above(k) => (2 * p.significand) << k,
+        Shift::Below(k) => rounding::place_of(p.significand, k),
     }
-    rounding::place_of(p.significand, p.by)
 }
 
 // The product of a zero and an infinity.

@@ -8,50 +8,20 @@ ghost use Rattle.half.specs.Exact.{ratio, is_nearest, outward, round_to};
 ghost use Rattle.half.specs.Round.{OE, PE, outcome, tiny, overflow_fields, rounded_half};
 ghost use Rattle.half.specs.Work.{place};
 
+use super::choice::either;
 use super::{Mode, OE, Outcome, PE, UE, fields, operands};
 
 fn is_nearest(mode: Mode) -> bool
     ensures { result ≡ is_nearest mode }
 {
-    match mode {
-        Mode::Nearest => true,
-        Mode::Down => false,
-        Mode::Up => false,
-        Mode::TowardZero => false,
-    }
+    mode == Mode::Nearest
 }
 
-// The mode leads away from zero for a negative number.
-fn is_down(mode: Mode) -> bool
-    ensures { result ≡ outward mode true }
-{
-    match mode {
-        Mode::Nearest => false,
-        Mode::Down => true,
-        Mode::Up => false,
-        Mode::TowardZero => false,
-    }
-}
-
-// The mode leads away from zero for a positive number.
-fn is_up(mode: Mode) -> bool
-    ensures { result ≡ outward mode false }
-{
-    match mode {
-        Mode::Nearest => false,
-        Mode::Down => false,
-        Mode::Up => true,
-        Mode::TowardZero => false,
-    }
-}
-
-// One match of four would be a jump by the mode, which no processor foresees; two tests are none.
+// A match of four would be a jump by the mode, which no processor foresees; a comparison is none.
 fn leads_outward(mode: Mode, neg: bool) -> bool
     ensures { result ≡ outward mode neg }
 {
-    let down = is_down(mode);
-    let up = is_up(mode);
-    if neg { down } else { up }
+    mode == either(neg, Mode::Down, Mode::Up)
 }
 
 // What is added to z before it is divided by 4, to carry where the mode goes up; odd is z / 4 % 2.

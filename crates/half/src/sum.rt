@@ -11,24 +11,7 @@ use super::{Mode, Outcome, fields, normal, operands, rounding};
 fn cancelled_zero(mode: Mode) -> u16
     ensures { result ≡ cancelled mode }
 {
-    match mode {
-        Mode::Nearest => 0,
-        Mode::Down => 0x8000,
-        Mode::Up => 0,
-        Mode::TowardZero => 0,
-    }
-}
-
-fn larger(x: u64, y: u64) -> u64
-    ensures { result ≡ cond (ltb x y) y x }
-{
-    if x < y { y } else { x }
-}
-
-fn smaller(x: u64, y: u64) -> u64
-    ensures { result ≡ cond (ltb x y) x y }
-{
-    if x < y { x } else { y }
+    if mode == Mode::Down { 0x8000 } else { 0 }
 }
 
 // The magnitude of ±x and ±y added. By the larger and the smaller one, since the signs of operands are no branch that a processor
@@ -37,8 +20,8 @@ fn total(like: bool, x: u64, y: u64) -> u64
     requires { x + y < 2 ^ 64 }
     ensures { result ≡ sum_magnitude like x y }
 {
-    let l = larger(x, y);
-    let s = smaller(x, y);
+    let l = x.max(y);
+    let s = x.min(y);
     if like { l + s } else { l - s }
 }
 
@@ -143,18 +126,12 @@ fn normal_sum(a: Normal, b: Normal) -> normal::Sum
     }
 }
 
-fn lower(i: u32, j: u32) -> u32
-    ensures { result ≡ min i j }
-{
-    if i < j { i } else { j }
-}
-
 // ±x * 2^i and ±y * 2^j added, a product and an addend: at the lower one of the exponents their digits have room in 64 bits.
 pub(crate) fn shifted_sum(sx: bool, x: u64, i: u32, sy: bool, y: u64, j: u32) -> normal::Sum
     requires { (x < 2 ^ 22) × (y < 2 ^ 11) × (9 ≤ i) × (i ≤ 67) × (33 ≤ j) × (j ≤ 62) }
     ensures { Summed sx (x * 2 ^ i) sy (y * 2 ^ j) result }
 {
-    let low = lower(i, j);
+    let low = i.min(j);
     let xs = x << (i - low);
     let ys = y << (j - low);
     normal::Sum {

@@ -5,30 +5,19 @@ use Rattle.half.proofs.fused.finite_fused.Goals as goal
 
 pub finite_sum-requires : goal.finite_sum-requires
 finite_sum-requires c =
-    let scaled_product = c.scaled_product-p in
-    omega (
-      arith,
-      up_lt scaled_product.ensures c.if-p.true,
-      c.magnitude-n.ensures,
-      c.requires,
-    )
+    let p = c.scaled_product-p.ensures in
+    omega (arith, up_lt _ _ p.small c.in-Above.k (rw c.in-Above.is at p.shifted), c.magnitude-n.ensures, c.requires)
 
-pub returns-then-p : goal.returns-then-p
-returns-then-p c =
-    let unlike_signs = c.unlike_signs-neg in
-    let sign_of = c.sign_of-sc in
-    let magnitude = c.magnitude-n in
-    let scaled_product = c.scaled_product-p in
-    coarse_sum c.args.mode c.args.unmasked_ue c.args.a c.args.b c.args.c unlike_signs.ensures
-    sign_of.ensures magnitude.ensures _ (up_units scaled_product.ensures c.if-p.true)
-    c.finite_sum.ensures
+pub returns-in-Above : goal.returns-in-Above
+returns-in-Above c =
+    let args = c.args in
+    let p = c.scaled_product-p.ensures in
+    coarse_sum args.mode args.unmasked_ue args.a args.b args.c c.unlike_signs-neg.ensures c.sign_of-sc.ensures c.magnitude-n.ensures _
+    (up_units _ _ p.small c.in-Above.k (rw c.in-Above.is at p.shifted)) c.finite_sum.ensures
 
-pub returns : goal.returns
-returns c =
-    let unlike_signs = c.unlike_signs-neg in
-    let sign_of = c.sign_of-sc in
-    let magnitude = c.magnitude-n in
-    let scaled_product = c.scaled_product-p in
-    fine_sum c.args.mode c.args.unmasked_ue c.args.a c.args.b c.args.c unlike_signs.ensures
-    sign_of.ensures magnitude.ensures (down_units scaled_product.ensures c.if-p.false).0
-    c.finite_sum-2.ensures
+pub returns-in-Below : goal.returns-in-Below
+returns-in-Below c =
+    let args = c.args in
+    let p = c.scaled_product-p.ensures in
+    fine_sum args.mode args.unmasked_ue args.a args.b args.c c.unlike_signs-neg.ensures c.sign_of-sc.ensures c.magnitude-n.ensures
+    (down_units _ _ p.small c.in-Below.k (rw c.in-Below.is at p.shifted)).0 c.finite_sum-in-Below.ensures

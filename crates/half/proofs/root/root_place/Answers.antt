@@ -5,9 +5,6 @@ use Rattle.half.proofs.root.root_place.Goals as goal
 pub overflow_mul-s : goal.overflow_mul-s
 overflow_mul-s c = omega (arith, root_square 12 c.args.n _ c.integer_root-s.ensures c.requires)
 
-pub overflow_mul-result : goal.overflow_mul-result
-overflow_mul-result c = omega (arith, root_lt 12 c.args.n _ c.integer_root-s.ensures c.requires)
-
 pub overflow_mul-result-else-s-n : goal.overflow_mul-result-else-s-n
 overflow_mul-result-else-s-n c = omega (arith, root_lt 12 c.args.n _ c.integer_root-s.ensures c.requires)
 
