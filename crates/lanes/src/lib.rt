@@ -8,9 +8,10 @@ ghost use Rattle.sources.specs.Work.{every_lane};
 ghost use Rattle.lanes.specs.Work.{lanes_of, results_by, results_where, picked_at, Serves};
 
 use evex::Operation;
+use half::choice::either;
 use half::comparison::{GT_OS, LT_OS, Predicate};
 use half::{Outcome, comparison, fused, product, quotient, root, sum};
-use machine::{Element, Environment};
+use machine::Environment;
 use sources::mask::{end_of, has};
 
 pub mod control;
@@ -30,43 +31,32 @@ struct Lanes {
     joined: u16,
 }
 
-// The lanes that are on, one by one; or all 32 at once, by what a predicate picks, in vector instructions.
+// By what an operation picks one of two halves, or its answer, 1 or 0, where it compares.
 #[derive(Clone, Copy)]
-enum Way {
-    OneByOne,
-    AllAtOnce {
-        predicate: Predicate,
-        compares: bool,
-    },
-}
-
-fn rounded(o: Outcome) -> Element
-    ensures { result ≡ rounded o }
-{
-    Element {
-        value: o.half,
-        flags: o.flags,
-    }
+struct Picking {
+    predicate: Predicate,
+    compares: bool,
 }
 
 // One element: d is the destination's, f the first source's, x the second's. A line for each operation.
-fn operate(operation: Operation, e: Environment, d: u16, f: u16, x: u16) -> Element
-    ensures { result ≡ operated operation e d f x }
+#[tactic(auto, unfolding(machine::specs::Lanes::operated))]
+fn operate(operation: Operation, e: Environment, d: u16, f: u16, x: u16) -> Outcome
+    ensures { rounded result ≡ operated operation e d f x }
 {
     let mode = e.mode;
     let ue = e.underflow;
     match operation {
-        Operation::Add => rounded(sum::add(mode, ue, f, x)),
-        Operation::Multiply => rounded(product::multiply(mode, ue, f, x)),
-        Operation::Subtract => rounded(sum::subtract(mode, ue, f, x)),
-        Operation::Divide => rounded(quotient::divide(mode, ue, f, x)),
-        Operation::SquareRoot => rounded(root::square_root(mode, ue, x)),
-        Operation::Fused132 => rounded(fused::multiply_add(mode, ue, d, x, f)),
-        Operation::Fused213 => rounded(fused::multiply_add(mode, ue, f, d, x)),
-        Operation::Fused231 => rounded(fused::multiply_add(mode, ue, f, x, d)),
-        Operation::Minimum => rounded(comparison::minimum(f, x)),
-        Operation::Maximum => rounded(comparison::maximum(f, x)),
-        Operation::Compare => rounded(comparison::compare(e.immediate as u32, f, x)),
+        Operation::Add => sum::add(mode, ue, f, x),
+        Operation::Multiply => product::multiply(mode, ue, f, x),
+        Operation::Subtract => sum::subtract(mode, ue, f, x),
+        Operation::Divide => quotient::divide(mode, ue, f, x),
+        Operation::SquareRoot => root::square_root(mode, ue, x),
+        Operation::Fused132 => fused::multiply_add(mode, ue, d, x, f),
+        Operation::Fused213 => fused::multiply_add(mode, ue, f, d, x),
+        Operation::Fused231 => fused::multiply_add(mode, ue, f, x, d),
+        Operation::Minimum => comparison::minimum(f, x),
+        Operation::Maximum => comparison::maximum(f, x),
+        Operation::Compare => comparison::compare(e.immediate as u32, f, x),
     }
 }
 
@@ -89,9 +79,9 @@ fn one_by_one(
             continue;
         }
         let r = operate(operation, e, d[j], f[j], x[j]);
-        halves[j] = r.value;
-        joined = joined | r.value;
-        flags = flags | r.flags;
+        halves[j] = r.half;
+        joined |= r.half;
+        flags |= r.flags;
     }
     Results {
         halves,
@@ -101,17 +91,17 @@ fn one_by_one(
 }
 
 // All 32 lanes, whatever is on.
-fn whole_vector(predicate: Predicate, compares: bool, f: [u16; 32], x: [u16; 32]) -> Results
-    ensures { result ≡ results_by every_lane (picked_at predicate compares f x) }
+fn whole_vector(p: Picking, f: [u16; 32], x: [u16; 32]) -> Results
+    ensures { result ≡ results_by every_lane (picked_at p f x) }
 {
     let mut halves = [0u16; 32];
     let mut joined = 0u16;
     let mut flags = 0u8;
     for j in 0..32 {
-        let r = comparison::picked(predicate, compares, f[j], x[j]);
+        let r = comparison::picked(p.predicate, p.compares, f[j], x[j]);
         halves[j] = r.half;
-        joined = joined | r.half;
-        flags = flags | r.flags;
+        joined |= r.half;
+        flags |= r.flags;
     }
     Results {
         halves,
@@ -120,21 +110,15 @@ fn whole_vector(predicate: Predicate, compares: bool, f: [u16; 32], x: [u16; 32]
     }
 }
 
-fn half_if(on: bool, half: u16) -> u16
-    ensures { result ≡ cond on half 0 }
-{
-    if on { half } else { 0 }
-}
-
 fn only_on(on: u32, halves: [u16; 32]) -> Lanes
     ensures { result ≡ lanes_of (is_set on) (λ j. get_or halves j 0) }
 {
     let mut lanes = [0u16; 32];
     let mut joined = 0u16;
     for j in 0..32 {
-        let half = half_if(has(on, j), halves[j]);
+        let half = either(has(on, j), halves[j], 0);
         lanes[j] = half;
-        joined = joined | half;
+        joined |= half;
     }
     Lanes {
         halves: lanes,
@@ -143,17 +127,17 @@ fn only_on(on: u32, halves: [u16; 32]) -> Lanes
 }
 
 // Lanes that are off are computed with zeros, which raise nothing, and what they give is dropped.
-fn all_at_once(on: u32, predicate: Predicate, compares: bool, f: [u16; 32], x: [u16; 32]) -> Results
-    ensures { result ≡ results_by (is_set on) (picked_at predicate compares f x) }
+fn all_at_once(on: u32, p: Picking, f: [u16; 32], x: [u16; 32]) -> Results
+    ensures { result ≡ results_by (is_set on) (picked_at p f x) }
 {
     if on == u32::MAX {
-        return whole_vector(predicate, compares, f, x);
+        return whole_vector(p, f, x);
     }
     let first = only_on(on, f);
     let second = only_on(on, x);
     let a = first.halves;
     let b = second.halves;
-    let all = whole_vector(predicate, compares, a, b);
+    let all = whole_vector(p, a, b);
     let every = all.halves;
     let left = only_on(on, every);
     let halves = left.halves;
@@ -164,27 +148,28 @@ fn all_at_once(on: u32, predicate: Predicate, compares: bool, f: [u16; 32], x: [
     }
 }
 
-// Where no lane above 2 is on, one by one is sooner done.
-fn way_of(on: u32, operation: Operation, e: Environment) -> Way
+// What the operation picks by, where all 32 lanes at once, in vector instructions, are sooner done than those that are on, one by one: not
+// where no lane above 2 is on.
+fn way_of(on: u32, operation: Operation, e: Environment) -> Option<Picking>
     ensures { Serves operation e result }
 {
     if on < 8 {
-        return Way::OneByOne;
+        return None;
     }
     match operation {
-        Operation::Minimum => Way::AllAtOnce {
+        Operation::Minimum => Some(Picking {
             predicate: comparison::predicate_of(LT_OS),
             compares: false,
-        },
-        Operation::Maximum => Way::AllAtOnce {
+        }),
+        Operation::Maximum => Some(Picking {
             predicate: comparison::predicate_of(GT_OS),
             compares: false,
-        },
-        Operation::Compare => Way::AllAtOnce {
+        }),
+        Operation::Compare => Some(Picking {
             predicate: comparison::predicate_of(e.immediate as u32),
             compares: true,
-        },
-        _ => Way::OneByOne,
+        }),
+        _ => None,
     }
 }
 
@@ -198,12 +183,8 @@ pub fn all_lanes(
 ) -> Results
     ensures { result ≡ results_where (is_set on) operation e (record { destination = d; first = f; second = x }) }
 {
-    let Way::AllAtOnce {
-        predicate,
-        compares,
-    } = way_of(on, operation, e)
-    else {
-        return one_by_one(on, operation, e, d, f, x);
-    };
-    all_at_once(on, predicate, compares, f, x)
+    match way_of(on, operation, e) {
+        Some(p) => all_at_once(on, p, f, x),
+        None => one_by_one(on, operation, e, d, f, x),
+    }
 }

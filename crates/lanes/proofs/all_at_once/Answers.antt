@@ -12,9 +12,9 @@ returns-then-on-eq4294967295 c = c.whole_vector.ensures ∙ all_on c.if-on-eq429
 pub returns : goal.returns
 returns c =
     let args = c.args in
-    zeros_where_off (is_set args.on) args.predicate args.compares args.f args.x {r = c.whole_vector-all.result}
+    zeros_where_off (is_set args.on) args.p args.f args.x {r = c.whole_vector-all.result}
     {l = c.only_on-left.result}
     (c.whole_vector-all.ensures
     ∙ (λ i. results_by every_lane
-    (picked_at args.predicate args.compares (c.only_on-first.ensures i).halves (c.only_on-second.ensures i).halves)))
+    (picked_at args.p (c.only_on-first.ensures i).halves (c.only_on-second.ensures i).halves)))
     c.only_on-left.ensures

@@ -25,9 +25,9 @@ loop-j-preserved-then-not-has c =
 pub loop-j-preserved : goal.loop-j-preserved
 loop-j-preserved c =
     let on = sym c.has.ensures ∙ c.if-not-has.false in (
-      more c.loop-j.invariant.0 (omega (arith, c.end_of-end.ensures.1)) (rw (on, c.operate-r.ensures)),
-      or_more c.loop-j.invariant.1 (rw (on, c.operate-r.ensures)),
-      or_more c.loop-j.invariant.2 (rw (on, c.operate-r.ensures)),
+      more c.loop-j.invariant.0 (omega (arith, c.end_of-end.ensures.1)) (rw (on, ← c.operate-r.ensures)),
+      or_more c.loop-j.invariant.1 (rw (on, ← c.operate-r.ensures)),
+      or_more c.loop-j.invariant.2 (rw (on, ← c.operate-r.ensures)),
     )
 
 pub returns : goal.returns

@@ -1,6 +1,5 @@
 -- `lanes::one_by_one` meets its contract: the loop fills the results lane by lane, and or-s the halves and the flags; no lane is on
 -- behind them.
-use Prim.Native.Nat.{◌-◌}
 use mathlib.Core.Bool.{cond}
 use Rattle.evex.specs.Bits.{is_set}
 use Rattle.machine.specs.Lanes.{element_at}
@@ -13,6 +12,3 @@ invariant-loop-j l =
     Filled (λ k. cond (is_set l.on k) (element k).value 0) 32 l.initial.halves l.halves l.j
     × Ored (λ k. cond (is_set l.on k) (element k).value 0) l.joined l.j
     × Ored (λ k. cond (is_set l.on k) (element k).flags 0) l.flags l.j
-
-abbrev pub decreases-loop-j : goal.decreases-loop-j
-decreases-loop-j l = l.end - l.j

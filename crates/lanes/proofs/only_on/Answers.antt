@@ -9,8 +9,8 @@ loop-j-init c = (none refl, or_none)
 
 pub loop-j-preserved : goal.loop-j-preserved
 loop-j-preserved c = (
-  more c.loop-j.invariant.0 (omega arith) (rw (c.half_if-half.ensures, c.has.ensures)),
-  or_more c.loop-j.invariant.1 (rw (c.half_if-half.ensures, c.has.ensures)),
+  more c.loop-j.invariant.0 (omega arith) (rw (c.either-half.ensures, c.has.ensures)),
+  or_more c.loop-j.invariant.1 (rw (c.either-half.ensures, c.has.ensures)),
 )
 
 pub returns : goal.returns

@@ -1,5 +1,4 @@
 -- `lanes::only_on` meets its contract: the loop fills the lanes, and or-s them.
-use Prim.Native.Nat.{◌-◌}
 use mathlib.Core.Bool.{cond}
 use lib.ListN.{get_or}
 use Rattle.lists.proofs.Filling.{Filled, Ored}
@@ -8,6 +7,3 @@ use Rattle.lanes.proofs.only_on.Given as goal
 
 abbrev pub invariant-loop-j : goal.invariant-loop-j
 invariant-loop-j l = Filled (λ k. cond (is_set l.on k) (get_or l.halves k 0) 0) 32 l.initial.lanes l.lanes l.j × Ored (λ k. cond (is_set l.on k) (get_or l.halves k 0) 0) l.joined l.j
-
-abbrev pub decreases-loop-j : goal.decreases-loop-j
-decreases-loop-j l = 32 - l.j
