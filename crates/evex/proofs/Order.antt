@@ -6,6 +6,7 @@ use mathlib.Core.List.{List, [], ◌∷◌, ◌++◌, map}
 use Prim.Native.Nat.{ℕ, ◌+◌, ◌<◌, ◌≤◌}
 use borrow.Author.Tests.{ne_eqb, lt-ltb, le-ltb}
 use lib.ListN.{length, drop}
+use Rattle.std.specs.Prelude.{Result, Ok, Err, Some, None}
 use Rattle.lists.specs.Lists.{some, first_of}
 use Rattle.evex.specs.Bits.{byte}
 use Rattle.evex.specs.List.{shape}
@@ -14,11 +15,9 @@ use Rattle.evex.specs.Decode.{no_bytes, wrong_first_byte, fewer_than_six_bytes, 
 use Rattle.evex.specs.Decode.{head_conditions, row_conditions, refusals, fields, decoded}
 use Rattle.evex.specs.declared.head.Head.{Head}
 use Rattle.evex.specs.declared.list.Row.{Row}
-use Rattle.evex.specs.declared.list.Listed.TheVariants.{Found, Nothing}
+use Rattle.evex.specs.declared.Instruction.{Instruction}
 use Rattle.evex.specs.declared.Refusal.{Refusal}
 use Rattle.evex.specs.declared.Refusal.TheVariants.{Incomplete, Unlisted, Reserved}
-use Rattle.evex.specs.declared.Decoded.{Decoded}
-use Rattle.evex.specs.declared.Decoded.TheVariants.{Fields, Refused}
 
 -- ---- what the tests have shown on the way
 
@@ -44,12 +43,12 @@ sized h row e f g = rw (g, e, f)
 
 -- ---- conditions with what they give
 
-abbrev pub answers : List (Bool × Refusal) → List (Bool × Decoded)
-answers cs = map (λ c. (c.0, Refused c.1)) cs
+abbrev pub answers : List (Bool × Refusal) → List (Bool × Result Instruction Refusal)
+answers cs = map (λ c. (c.0, Err c.1)) cs
 
 -- one refusal beside every condition of a list that stands before others
-of_any : (ts : List Bool) (r : Refusal) (cs : List (Bool × Refusal)) (d : Decoded)
-    → first_of (answers (map (λ t. (t, r)) ts ++ cs)) d ≡ cond (some (λ t. t) ts) (Refused r) (first_of (answers cs) d)
+of_any : (ts : List Bool) (r : Refusal) (cs : List (Bool × Refusal)) (d : Result Instruction Refusal)
+    → first_of (answers (map (λ t. (t, r)) ts ++ cs)) d ≡ cond (some (λ t. t) ts) (Err r) (first_of (answers cs) d)
 of_any [] r cs d = refl
 of_any (true ∷ ts) r cs d = refl
 of_any (false ∷ ts) r cs d = of_any ts r cs d
@@ -57,15 +56,15 @@ of_any (false ∷ ts) r cs d = of_any ts r cs d
 -- ---- the first three conditions
 
 module _ (code : List ℕ) where
-  pub no_bytes_lem : length code ≡ 0 → Refused Incomplete ≡ decoded code
+  pub no_bytes_lem : length code ≡ 0 → Err Incomplete ≡ decoded code
   unfolding decoded refusals head_conditions no_bytes
   no_bytes_lem e = rw e
 
-  pub first_byte : (length code ≡ 0 → ⊥) → (byte code 0 ≡ 0x62 → ⊥) → Refused Unlisted ≡ decoded code
+  pub first_byte : (length code ≡ 0 → ⊥) → (byte code 0 ≡ 0x62 → ⊥) → Err Unlisted ≡ decoded code
   unfolding decoded refusals head_conditions no_bytes wrong_first_byte
   first_byte some n = rw (ne_eqb (length code) 0 some, ne_eqb (byte code 0) 0x62 n)
 
-  pub few_bytes : (length code ≡ 0 → ⊥) → byte code 0 ≡ 0x62 → length code < 6 → Refused Incomplete ≡ decoded code
+  pub few_bytes : (length code ≡ 0 → ⊥) → byte code 0 ≡ 0x62 → length code < 6 → Err Incomplete ≡ decoded code
   unfolding decoded refusals head_conditions no_bytes wrong_first_byte fewer_than_six_bytes
   few_bytes some evex s = rw (ne_eqb (length code) 0 some, evex, lt-ltb (length code) 6 s)
 
@@ -78,41 +77,41 @@ module _ (code : List ℕ) where
 -- ---- the conditions of the head
 
 -- what is left of the order behind them
-abbrev from_row : List ℕ → Head → Row → Decoded
-from_row code h row = first_of (answers (row_conditions h code row)) (Fields (instruction h row code))
+abbrev from_row : List ℕ → Head → Row → Result Instruction Refusal
+from_row code h row = first_of (answers (row_conditions h code row)) (Ok (instruction h row code))
 
 module _ {code : List ℕ} {h : Head} where
-  pub fixed_bits : Begun code → h ≡ head_of code → wrong_fixed_bits h ≡ true → Refused Reserved ≡ decoded code
+  pub fixed_bits : Begun code → h ≡ head_of code → wrong_fixed_bits h ≡ true → Err Reserved ≡ decoded code
   unfolding refusals head_conditions
   fixed_bits g e t = rw (← rest code g, ← e, t)
 
-  pub unlisted : Headed code h → listed h ≡ Nothing → Refused Unlisted ≡ decoded code
+  pub unlisted : Headed code h → listed h ≡ None → Err Unlisted ≡ decoded code
   unfolding refusals head_conditions not_in_list
   unlisted g n = rw (← rest code g.begun, ← g.head, g.fixed, n)
 
-  pub listed-row : {row : Row} → Headed code h → listed h ≡ Found row → from_row code h row ≡ decoded code
+  pub listed-row : {row : Row} → Headed code h → listed h ≡ Some row → from_row code h row ≡ decoded code
   unfolding refusals head_conditions not_in_list
   listed-row g found = rw (← rest code g.begun, ← g.head, g.fixed, found)
 
 -- ---- the conditions of the row
 
 -- the last of them, and the fields
-abbrev ending : List ℕ → Head → Row → Decoded
-ending code h row = cond (bytes_missing h row code) (Refused Incomplete) (Fields (instruction h row code))
+abbrev ending : List ℕ → Head → Row → Result Instruction Refusal
+ending code h row = cond (bytes_missing h row code) (Err Incomplete) (Ok (instruction h row code))
 
 module _ (code : List ℕ) (h : Head) (row : Row) where
-  after_list : cond (is_reserved h row) (Refused Reserved) (ending code h row) ≡ from_row code h row
+  after_list : cond (is_reserved h row) (Err Reserved) (ending code h row) ≡ from_row code h row
   unfolding row_conditions
   after_list = sym (of_any (reserved_forms h row) Reserved _ _)
 
-  pub reserved : is_reserved h row ≡ true → Refused Reserved ≡ from_row code h row
+  pub reserved : is_reserved h row ≡ true → Err Reserved ≡ from_row code h row
   reserved t = rw (← after_list, t)
 
   module _ (plain : is_reserved h row ≡ false) {n : ℕ} (e : n ≡ size h row) where
-    pub missing : length code < n → Refused Incomplete ≡ from_row code h row
+    pub missing : length code < n → Err Incomplete ≡ from_row code h row
     unfolding bytes_missing
     missing s = rw (← after_list, plain, ← e, lt-ltb (length code) n s)
 
-    pub accepted : n ≤ length code → Fields (instruction h row code) ≡ from_row code h row
+    pub accepted : n ≤ length code → Ok (instruction h row code) ≡ from_row code h row
     unfolding bytes_missing
     accepted s = rw (← after_list, plain, ← e, le-ltb (length code) n s)

@@ -9,7 +9,7 @@ ghost use Rattle.evex.specs.Decode.{extra_source, scalar_broadcast, zeroing_mask
 use super::bits::{byte_at, four_bytes_at, scaled, signed8, signed32};
 use super::head::Head;
 use super::list::Row;
-use super::{Destination, Instruction, Rounding, Source};
+use super::{Destination, Instruction, Rounding};
 use half::Mode;
 
 // A mask, or a vector register (R3.6).
@@ -24,14 +24,14 @@ fn destination(head: Head, row: Row) -> Destination
 }
 
 // The first source, where there is one (R2.2).
-fn first(head: Head, row: Row) -> Source
+fn first(head: Head, row: Row) -> Option<usize>
     ensures { result ≡ first head row }
 {
     let shape = row.shape();
     if shape.first {
-        return Source::Register(head.first_source());
+        return Some(head.first_source());
     }
-    Source::None
+    None
 }
 
 // How many (R3.7): one, or one in each lane of a vector.

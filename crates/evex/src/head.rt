@@ -7,7 +7,7 @@ ghost use Rattle.evex.specs.Fields.{displacement_size, second};
 ghost use Rattle.evex.specs.Decode.{wrong_fixed_bits, reserved_length, zeroing_without_mask};
 
 use super::bits::{bits, byte_at, inverted, is_set, joined, register};
-use super::list::{Listed, find};
+use super::list::{Row, find};
 use super::{Address, Base, Index, Operand};
 
 // R3.1. `sib` is 0 where there is no SIB byte.
@@ -159,16 +159,17 @@ impl Head {
         (bits(self.modrm, 6, 2) == 0) & (self.base_bits() == 5)
     }
 
-    fn base(self) -> Base
+    fn base(self) -> Option<Base>
         ensures { result ≡ base_of self }
     {
         if self.has_no_base() {
             if self.has_sib() {
-                return Base::None;
+                return None;
             }
-            return Base::NextInstruction;
+            return Some(Base::NextInstruction);
         }
-        Base::General(register(0, inverted(self.byte1, 5, 1), self.base_bits()))
+        let number = register(0, inverted(self.byte1, 5, 1), self.base_bits());
+        Some(Base::General(number))
     }
 
     // X and the index bits of the SIB byte.
@@ -179,17 +180,17 @@ impl Head {
     }
 
     // R3.10: number 4 is none.
-    fn index(self) -> Index
+    fn index(self) -> Option<Index>
         ensures { result ≡ index_of self }
     {
         let number = self.index_number();
         if self.has_sib() & (number != 4) {
-            return Index::Scaled {
+            return Some(Index {
                 number,
                 scale: bits(self.sib, 6, 2),
-            };
+            });
         }
-        Index::None
+        None
     }
 
     pub(crate) fn displacement_at(self) -> usize
@@ -241,7 +242,7 @@ impl Head {
         is_set(self.byte1, 3) | !is_set(self.byte2, 2)
     }
 
-    pub(crate) fn listed(self) -> Listed
+    pub(crate) fn listed(self) -> Option<Row>
         ensures { result ≡ listed self }
     {
         let prefix = bits(self.byte2, 0, 2);

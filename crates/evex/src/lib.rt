@@ -1,15 +1,14 @@
 // The bytes of an instruction: its fields (R3.1 to R3.15), or why they are refused (R4.5 to R4.11).
 #![tactic(auto)]
 
-ghost use Rattle.std.specs.Prelude.{◌≡◌, map};
+ghost use Rattle.std.specs.Prelude.{◌≡◌, map, Ok, Err};
 ghost use Rattle.lists.specs.Lists.{first_of};
 ghost use Rattle.evex.specs.Fields.{instruction};
 ghost use Rattle.evex.specs.Decode.{row_conditions, decoded, number_of};
-ghost use Rattle.evex.specs.declared.Decoded.TheVariants.{Fields, Refused};
 
 use half::Mode;
 use head::Head;
-use list::{Listed, Row};
+use list::Row;
 
 mod bits;
 mod form;
@@ -60,32 +59,24 @@ pub enum Destination {
     Mask(usize),
 }
 
-// The first source: a vector register, or none.
-#[derive(Clone, Copy)]
-pub enum Source {
-    None,
-    Register(usize),
-}
-
-// What an address starts from: nothing, a general register, or the next instruction's address.
+// What an address starts from: a general register, or the next instruction's address.
 #[derive(Clone, Copy)]
 pub enum Base {
-    None,
     General(usize),
     NextInstruction,
 }
 
 // The general register whose value times 2 to the `scale` is added.
 #[derive(Clone, Copy)]
-pub enum Index {
-    None,
-    Scaled { number: usize, scale: u8 },
+pub struct Index {
+    pub number: usize,
+    pub scale: u8,
 }
 
 #[derive(Clone, Copy)]
 pub struct Address {
-    pub base: Base,
-    pub index: Index,
+    pub base: Option<Base>,
+    pub index: Option<Index>,
     pub displacement: i32,
 }
 
@@ -107,7 +98,7 @@ pub struct Instruction {
     pub zeroing: bool,
     pub mask: usize,
     pub destination: Destination,
-    pub first: Source,
+    pub first: Option<usize>,
     pub second: Operand,
     pub immediate: u8,
     pub size: usize,
@@ -119,12 +110,6 @@ pub enum Refusal {
     Incomplete,
     Unlisted,
     Reserved,
-}
-
-#[derive(Clone, Copy)]
-pub enum Decoded {
-    Fields(Instruction),
-    Refused(Refusal),
 }
 
 impl Refusal {
@@ -141,42 +126,42 @@ impl Refusal {
 }
 
 // From R4.10 on. By itself, since the compiler takes what stands behind many tests for rare, and would not inline the fields.
-fn decode_row(head: Head, row: Row, code: &[u8]) -> Decoded
+fn decode_row(head: Head, row: Row, code: &[u8]) -> Result<Instruction, Refusal>
     ensures { result
-        ≡ first_of (map (λ c. (c.0, Refused c.1)) (row_conditions head code.now row))
-        (Fields (instruction head row code.now)) }
+        ≡ first_of (map (λ c. (c.0, Err c.1)) (row_conditions head code.now row))
+        (Ok (instruction head row code.now)) }
 {
     if form::is_reserved(head, row) {
-        return Decoded::Refused(Refusal::Reserved);
+        return Err(Refusal::Reserved);
     }
     let at = head.displacement_at();
     let bytes = head.displacement_size();
     let length = form::size(row, at, bytes);
     if code.len() < length {
-        return Decoded::Refused(Refusal::Incomplete);
+        return Err(Refusal::Incomplete);
     }
-    Decoded::Fields(form::instruction(head, row, code, at, bytes, length))
+    Ok(form::instruction(head, row, code, at, bytes, length))
 }
 
 // The instruction that the bytes begin with, in the order of R4.2. What follows it has no effect (R4.18).
-pub fn decode(code: &[u8]) -> Decoded
+pub fn decode(code: &[u8]) -> Result<Instruction, Refusal>
     ensures { result ≡ decoded code.now }
 {
     if code.len() == 0 {
-        return Decoded::Refused(Refusal::Incomplete);
+        return Err(Refusal::Incomplete);
     }
     if code[0] != 0x62 {
-        return Decoded::Refused(Refusal::Unlisted);
+        return Err(Refusal::Unlisted);
     }
     if code.len() < 6 {
-        return Decoded::Refused(Refusal::Incomplete);
+        return Err(Refusal::Incomplete);
     }
     let head = Head::of(code);
     if head.has_wrong_fixed_bits() {
-        return Decoded::Refused(Refusal::Reserved);
+        return Err(Refusal::Reserved);
     }
-    let Listed::Found(row) = head.listed() else {
-        return Decoded::Refused(Refusal::Unlisted);
+    let Some(row) = head.listed() else {
+        return Err(Refusal::Unlisted);
     };
     decode_row(head, row, code)
 }

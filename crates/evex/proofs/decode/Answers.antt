@@ -42,4 +42,4 @@ pub returns : goal.returns
 returns c =
     c.decode_row.ensures
     ∙ listed-row (headed (goal.at.returns c).Else-has_wrong_fixed_bits)
-    (sym c.listed.ensures ∙ c.in-Found.is)
+    (sym c.listed.ensures ∙ c.in-Some.is)

@@ -17,13 +17,6 @@ returns-then-row-prefix c =
     ends _ _ _ _ c.row_at-row.ensures c.if-row-prefix.true
     ∙ c.loop-i.invariant
 
-pub overflow_add-i : goal.overflow_add-i
-overflow_add-i c = omega arith
-
-pub loop-i-smaller : goal.loop-i-smaller
-unfolding rows
-loop-i-smaller c = omega arith
-
 pub loop-i-preserved : goal.loop-i-preserved
 loop-i-preserved c =
     passes _ _ _ _ c.row_at-row.ensures c.if-row-prefix.false

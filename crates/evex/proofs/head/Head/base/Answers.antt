@@ -1,6 +1,7 @@
 -- `evex::head::Head::base` meets its contract: by the two tests.
 use mathlib.Core.Path.{ap}
 use native.Mathlib.Omega.{arith}
+use Rattle.std.specs.Prelude.{Some}
 use Rattle.evex.specs.declared.Base.TheVariants.{General}
 use Rattle.evex.specs.Fields.{base_of}
 use Rattle.evex.proofs.head.Head.base.Goals as goal
@@ -16,5 +17,4 @@ returns-then-has_no_base c = rw (← c.has_no_base.ensures, c.if-has_no_base.tru
 pub returns : goal.returns
 unfolding base_of
 returns c =
-    let has_no_base = c.has_no_base in
-    rw (← has_no_base.ensures, c.if-has_no_base.false) (ap General (omega arith))
+    rw (← c.has_no_base.ensures, c.if-has_no_base.false) (ap (λ n. Some (General n)) (omega arith))
