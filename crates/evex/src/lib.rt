@@ -6,9 +6,9 @@ ghost use Rattle.lists.specs.Lists.{first_of};
 ghost use Rattle.evex.specs.Fields.{instruction};
 ghost use Rattle.evex.specs.Decode.{row_conditions, decoded, number_of};
 
+use form::Form;
 use half::Mode;
 use head::Head;
-use list::Row;
 
 mod bits;
 mod form;
@@ -89,6 +89,7 @@ pub enum Operand {
 
 // The fields of an instruction. Elements are 1, 8, 16 or 32, one to a lane from lane 0 on (R3.7); `mask` is aaa (R5.1); the immediate is 0
 // where there is none; the size is the length in bytes (R3.14).
+// Its bounds are no ghost field: `destination_of` (specs/Fields.antt) makes one of any bytes, and a mask above 7 where R4.10 refuses.
 #[derive(Clone, Copy)]
 pub struct Instruction {
     pub operation: Operation,
@@ -126,28 +127,26 @@ impl Refusal {
 }
 
 // From R4.10 on. By itself, since the compiler takes what stands behind many tests for rare, and would not inline the fields.
-fn decode_row(head: Head, row: Row, code: &[u8]) -> Result<Instruction, Refusal>
+fn decode_row(form: Form, code: &[u8]) -> Result<Instruction, Refusal>
     ensures { result
-        ≡ first_of (map (λ c. (c.0, Err c.1)) (row_conditions head code.now row))
-        (Ok (instruction head row code.now)) }
+        ≡ first_of (map (λ c. (c.0, Err c.1)) (row_conditions form.head code.now form.row))
+        (Ok (instruction form.head form.row code.now)) }
 {
-    if form::is_reserved(head, row) {
+    if form.is_reserved() {
         return Err(Refusal::Reserved);
     }
-    let at = head.displacement_at();
-    let bytes = head.displacement_size();
-    let length = form::size(row, at, bytes);
-    if code.len() < length {
+    if code.len() < form.size() {
         return Err(Refusal::Incomplete);
     }
-    Ok(form::instruction(head, row, code, at, bytes, length))
+    Ok(form.instruction(code))
 }
 
 // The instruction that the bytes begin with, in the order of R4.2. What follows it has no effect (R4.18).
+#[tactic(auto, unfolding(crate::specs::Decode::decoded, crate::specs::Decode::refusals, crate::specs::Decode::head_conditions, crate::specs::Decode::no_bytes, crate::specs::Decode::wrong_first_byte, crate::specs::Decode::fewer_than_six_bytes, crate::specs::Decode::not_in_list))]
 pub fn decode(code: &[u8]) -> Result<Instruction, Refusal>
     ensures { result ≡ decoded code.now }
 {
-    if code.len() == 0 {
+    if code.is_empty() {
         return Err(Refusal::Incomplete);
     }
     if code[0] != 0x62 {
@@ -160,8 +159,6 @@ pub fn decode(code: &[u8]) -> Result<Instruction, Refusal>
     if head.has_wrong_fixed_bits() {
         return Err(Refusal::Reserved);
     }
-    let Some(row) = head.listed() else {
-        return Err(Refusal::Unlisted);
-    };
-    decode_row(head, row, code)
+    let row = head.listed().ok_or(Refusal::Unlisted)?;
+    decode_row(Form { head, row }, code)
 }

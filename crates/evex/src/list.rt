@@ -1,4 +1,6 @@
 // The list of instructions (R2.1).
+#![tactic(auto, unfolding(crate::specs::List::rows))]
+
 ghost use Rattle.std.specs.Prelude.{◌≡◌, false, ◌&&◌, ◌∷◌, ℕ, ◌+◌, ◌<◌, ◌≤◌, eqb, length, take, drop};
 ghost use Rattle.lists.specs.Lists.{some};
 ghost use Rattle.evex.specs.List.{rows, operation, shape, find};
