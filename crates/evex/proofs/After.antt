@@ -11,6 +11,7 @@ use borrow.Author.Tests.{ne_eqb, le-ltb, ltb-false, leb-true, leb-false, eqb-tru
 use lib.Dec.{eqb, leb, lit≤}
 use lib.ListN.{length, take, get_or-append, length-append}
 use lib.Seq.{get_or-take, length-take-le, take_all}
+use Rattle.std.specs.Prelude.{Result, Ok, Err, Option, Some, None}
 use Rattle.lists.specs.Lists.{first_of, NoneHolds}
 use Rattle.lists.proofs.First.{none_append}
 use Rattle.evex.specs.Bits.{byte}
@@ -21,35 +22,32 @@ use Rattle.evex.specs.Decode.{no_bytes, wrong_first_byte, fewer_than_six_bytes, 
 use Rattle.evex.specs.Decode.{refusals, fields, decoded}
 use Rattle.evex.specs.Sizes.{longest}
 use Rattle.evex.specs.declared.list.Row.{Row}
-use Rattle.evex.specs.declared.list.Listed.{Listed}
-use Rattle.evex.specs.declared.list.Listed.TheVariants.{Found, Nothing}
 use Rattle.evex.specs.declared.Instruction.{Instruction}
 use Rattle.evex.specs.declared.Refusal.{Refusal}
 use Rattle.evex.specs.declared.Refusal.TheVariants.{Reserved}
-use Rattle.evex.specs.declared.Decoded.{Decoded}
-use Rattle.evex.specs.declared.Decoded.TheVariants.{Fields, Refused}
 use Rattle.evex.proofs.Order.{answers}
 use Rattle.evex.proofs.Lengths.{size_least, size_most}
 
 -- ---- what is decoded, and when
 
-abbrev IsFields : Decoded → Type 0
-IsFields (Fields i) = Unit {0}
-IsFields (Refused r) = ⊥
+abbrev IsFields : Result Instruction Refusal → Type 0
+IsFields (Ok i) = Unit {0}
+IsFields (Err r) = ⊥
 
-passed : (cs : List (Bool × Refusal)) (d : Decoded) {i : Instruction} → first_of (answers cs) d ≡ Fields i → NoneHolds cs × (d ≡ Fields i)
+passed : (cs : List (Bool × Refusal)) (d : Result Instruction Refusal) {i : Instruction} → first_of (answers cs) d ≡ Ok i
+    → NoneHolds cs × (d ≡ Ok i)
 passed [] d e = (tt, e)
 passed (c ∷ cs) d {i} e = go c.0 refl (λ f. passed cs d f) e
   where
-    go : (t : Bool) → c.0 ≡ t → (first_of (answers cs) d ≡ Fields i → NoneHolds cs × (d ≡ Fields i))
-        → cond t (Refused c.1) (first_of (answers cs) d) ≡ Fields i → NoneHolds (c ∷ cs) × (d ≡ Fields i)
+    go : (t : Bool) → c.0 ≡ t → (first_of (answers cs) d ≡ Ok i → NoneHolds cs × (d ≡ Ok i))
+        → cond t (Err c.1) (first_of (answers cs) d) ≡ Ok i → NoneHolds (c ∷ cs) × (d ≡ Ok i)
     go true f later g = absurd (subst IsFields (sym g) tt)
-    go false f later g = let l : NoneHolds cs × (d ≡ Fields i) = later g in ((f, l.0), l.1)
+    go false f later g = let l : NoneHolds cs × (d ≡ Ok i) = later g in ((f, l.0), l.1)
 
 -- a row, no reserved form of it, and all bytes there
 pub record Whole (code : List ℕ) (i : Instruction) : Type 0 where
   pub row : Row
-  pub found : listed (head_of code) ≡ Found row
+  pub found : listed (head_of code) ≡ Some row
   pub is : i ≡ instruction (head_of code) row code
   pub plain : NoneHolds (map (λ t. (t, Reserved)) (reserved_forms (head_of code) row))
   pub there : size (head_of code) row ≤ length code
@@ -58,7 +56,7 @@ pub whole_size : {code : List ℕ} {i : Instruction} (w : Whole code i) → i.si
 unfolding instruction
 whole_size w = ap (λ (i : Instruction). i.size) w.is
 
-by_row : (code : List ℕ) (row : Row) → listed (head_of code) ≡ Found row → NoneHolds (refusals code)
+by_row : (code : List ℕ) (row : Row) → listed (head_of code) ≡ Some row → NoneHolds (refusals code)
     → NoneHolds (map (λ t. (t, Reserved)) (reserved_forms (head_of code) row)) × (size (head_of code) row ≤ length code)
 unfolding refusals row_conditions bytes_missing
 by_row code row found h =
@@ -66,19 +64,19 @@ by_row code row found h =
     let parts = none_append (map (λ t. (t, Reserved)) (reserved_forms (head_of code) row)) (_ ∷ []) of_row in
     (parts.0, ltb-false (length code) (size (head_of code) row) parts.1.0)
 
-pub whole : (code : List ℕ) {i : Instruction} → decoded code ≡ Fields i → Whole code i
+pub whole : (code : List ℕ) {i : Instruction} → decoded code ≡ Ok i → Whole code i
 unfolding decoded
 whole code {i} e = go (listed (head_of code)) refl (passed (refusals code) _ e)
   where
-    fields_or : Decoded → Instruction
-    fields_or (Fields j) = j
-    fields_or (Refused r) = i
+    fields_or : Result Instruction Refusal → Instruction
+    fields_or (Ok j) = j
+    fields_or (Err r) = i
 
-    go : (l : Listed) → listed (head_of code) ≡ l → NoneHolds (refusals code) × (fields (head_of code) code l ≡ Fields i) → Whole code i
-    go (Found row) f p =
+    go : (l : Option Row) → listed (head_of code) ≡ l → NoneHolds (refusals code) × (fields (head_of code) code l ≡ Ok i) → Whole code i
+    go (Some row) f p =
         let checked = by_row code row f p.0 in
         record { row = row; found = f; is = ap fields_or (sym p.1); plain = checked.0; there = checked.1 }
-    go Nothing f p = absurd (subst IsFields (sym p.1) tt)
+    go None f p = absurd (subst IsFields (sym p.1) tt)
 
 -- ---- two codes with the same first bytes
 
@@ -173,11 +171,11 @@ module _ {code other : List ℕ} {n : ℕ} (same : Same code other n) where
     unfolding instruction
     same_instruction = rw (same_displacement, same_immediate)
 
-    same_listed : listed (head_of code) ≡ Found row → decoded other ≡ decoded code
+    same_listed : listed (head_of code) ≡ Some row → decoded other ≡ decoded code
     unfolding decoded refusals
     same_listed found = rw (same_head, same_head_conditions, found, same_row_conditions, same_instruction)
 
-  same_unlisted : listed (head_of code) ≡ Nothing → decoded other ≡ decoded code
+  same_unlisted : listed (head_of code) ≡ None → decoded other ≡ decoded code
   unfolding decoded refusals
   same_unlisted found = rw (same_head, same_head_conditions, found)
 
@@ -188,7 +186,7 @@ sib_size : (code : List ℕ) (row : Row) → takes_sib (byte code 5) ≡ true �
 unfolding size displacement_at has_sib head_of
 sib_size code row e = rw e (omega arith)
 
-pub after : (code rest : List ℕ) {i : Instruction} → decoded code ≡ Fields i → decoded (take i.size code ++ rest) ≡ Fields i
+pub after : (code rest : List ℕ) {i : Instruction} → decoded code ≡ Ok i → decoded (take i.size code ++ rest) ≡ Ok i
 after code rest e =
     let w = whole code e in
     let n : ℕ = size (head_of code) w.row in
@@ -216,9 +214,9 @@ by_longest code n room = go (leb (length code) n) refl
           bytes = λ k. get_or-take n code k 0;
         }
 
-    cut : Same code (take n code) n → (l : Listed) → listed (head_of code) ≡ l → decoded (take n code) ≡ decoded code
-    cut same (Found row) = same_listed same row (le_trans (size_most (head_of code) row) room)
-    cut same Nothing = same_unlisted same
+    cut : Same code (take n code) n → (l : Option Row) → listed (head_of code) ≡ l → decoded (take n code) ≡ decoded code
+    cut same (Some row) = same_listed same row (le_trans (size_most (head_of code) row) room)
+    cut same None = same_unlisted same
 
     go : (t : Bool) → leb (length code) n ≡ t → decoded (take n code) ≡ decoded code
     go true e = ap decoded (take_all n code (leb-true (length code) n e))

@@ -9,6 +9,7 @@ use native.Mathlib.Omega.{arith}
 use borrow.Author.Tests.{ltb-false}
 use lib.Dec.{eqb, ltb, lit≤}
 use lib.IntN.{ℤ}
+use Rattle.std.specs.Prelude.{Ok, Option, Some, None}
 use Rattle.lists.proofs.Tests.{either}
 use Rattle.evex.specs.List.{shape}
 use Rattle.evex.specs.Fields.{head_of, length_bits, destination, destination_of, first, register_form, register_b, vector_lanes, elements}
@@ -20,16 +21,12 @@ use Rattle.evex.specs.declared.list.Row.{Row}
 use Rattle.evex.specs.declared.Operation.TheVariants.{Compare}
 use Rattle.evex.specs.declared.Destination.{Destination}
 use Rattle.evex.specs.declared.Destination.TheVariants.{Vector, Mask}
-use Rattle.evex.specs.declared.Source.{Source}
-use Rattle.evex.specs.declared.Source.TheVariants as source
 use Rattle.evex.specs.declared.Base.{Base}
 use Rattle.evex.specs.declared.Base.TheVariants as base
 use Rattle.evex.specs.declared.Index.{Index}
-use Rattle.evex.specs.declared.Index.TheVariants as index
 use Rattle.evex.specs.declared.Operand.{Operand}
 use Rattle.evex.specs.declared.Operand.TheVariants as operand
 use Rattle.evex.specs.declared.Instruction.{Instruction}
-use Rattle.evex.specs.declared.Decoded.TheVariants.{Fields}
 use Rattle.evex.proofs.Lengths.{size_most}
 use Rattle.evex.proofs.After.{whole}
 use Rattle.evex.proofs.Compared.{mask_compares}
@@ -38,18 +35,18 @@ abbrev pub DestinationIn : Destination → Type 0
 DestinationIn (Vector n) = n < 32
 DestinationIn (Mask n) = n < 8
 
-abbrev pub SourceIn : Source → Type 0
-SourceIn source.None = Unit {0}
-SourceIn (source.Register n) = n < 32
+abbrev pub SourceIn : Option ℕ → Type 0
+SourceIn None = Unit {0}
+SourceIn (Some n) = n < 32
 
-abbrev pub BaseIn : Base → Type 0
-BaseIn base.None = Unit {0}
-BaseIn (base.General n) = n < 16
-BaseIn base.NextInstruction = Unit {0}
+abbrev pub BaseIn : Option Base → Type 0
+BaseIn None = Unit {0}
+BaseIn (Some (base.General n)) = n < 16
+BaseIn (Some base.NextInstruction) = Unit {0}
 
-abbrev pub IndexIn : Index → Type 0
-IndexIn index.None = Unit {0}
-IndexIn (index.Scaled n scale) = (n < 16) × (scale < 4)
+abbrev pub IndexIn : Option Index → Type 0
+IndexIn None = Unit {0}
+IndexIn (Some i) = (i.number < 16) × (i.scale < 4)
 
 abbrev pub OperandIn : Operand → Type 0
 OperandIn (operand.Register n) = n < 32
@@ -134,10 +131,10 @@ module _ (h : Head) (row : Row) where
 
 -- ---- the whole
 
-pub bounds : (code : List ℕ) {i : Instruction} → decoded code ≡ Fields i → Bounds i
+pub bounds : (code : List ℕ) {i : Instruction} → decoded code ≡ Ok i → Bounds i
 unfolding reserved_forms
 bounds code e =
     let w = whole code e in
     subst Bounds (sym w.is)
     (instruction_in (head_of code) w.row code w.plain.1.1.1.1.1.0
-    (λ n to. mask_compares code (instruction (head_of code) w.row code) n (e ∙ ap Fields w.is) to))
+    (λ n to. mask_compares code (instruction (head_of code) w.row code) n (e ∙ ap Ok w.is) to))

@@ -7,6 +7,7 @@ use mathlib.Core.Bool.{Bool, true, false, not, ◌&&◌, beq, not-eq-not}
 use mathlib.Core.List.{List}
 use native.Mathlib.Omega.{arith}
 use borrow.Author.Tests.{ltb-false}
+use Rattle.std.specs.Prelude.{Ok, Some}
 use Rattle.lists.specs.Lists.{some}
 use Rattle.evex.specs.List.{rows, operation, shape}
 use Rattle.evex.specs.Fields.{head_of, listed, destination, vector_lanes, destination_of, elements, rounding, instruction}
@@ -14,13 +15,11 @@ use Rattle.evex.specs.Decode.{zeroing_mask, no_such_mask, reserved_forms, decode
 use Rattle.evex.specs.Compared.{Destinations, ByB, SuppressedForms}
 use Rattle.evex.specs.declared.head.Head.{Head}
 use Rattle.evex.specs.declared.list.Row.{Row}
-use Rattle.evex.specs.declared.list.Listed.TheVariants.{Found}
 use Rattle.evex.specs.declared.Operation.{Operation}
 use Rattle.evex.specs.declared.Operation.TheVariants.{Add, Multiply, Subtract, Divide, SquareRoot, Fused132, Fused213, Fused231}
 use Rattle.evex.specs.declared.Operation.TheVariants.{Minimum, Maximum, Compare}
 use Rattle.evex.specs.declared.Destination.TheVariants.{Vector, Mask}
 use Rattle.evex.specs.declared.Instruction.{Instruction}
-use Rattle.evex.specs.declared.Decoded.TheVariants.{Fields}
 use Rattle.evex.proofs.Search.{passes_test, none_found}
 use Rattle.evex.proofs.After.{whole}
 
@@ -59,7 +58,7 @@ none_wrong : some wrong_column rows ≡ false
 unfolding rows
 none_wrong = refl
 
-column : (h : Head) (row : Row) → listed h ≡ Found row → (shape row).mask ≡ is_compare (operation row)
+column : (h : Head) (row : Row) → listed h ≡ Some row → (shape row).mask ≡ is_compare (operation row)
 unfolding listed
 column h row found =
     let none : passes_test wrong_column (listed h) ≡ false = none_found wrong_column rows _ _ _ _ none_wrong in
@@ -72,7 +71,7 @@ column h row found =
     alike false false e = refl
 
 -- by whether it is one
-written : (code : List ℕ) (i : Instruction) → decoded code ≡ Fields i
+written : (code : List ℕ) (i : Instruction) → decoded code ≡ Ok i
     → (is_compare i.operation ≡ true → (n : ℕ) × (n < 8) × (i.destination ≡ Mask n) × (i.zeroing ≡ false))
     × (is_compare i.operation ≡ false → (n : ℕ) × (n < 32) × (i.destination ≡ Vector n))
 unfolding instruction destination_of zeroing_mask no_such_mask reserved_forms
@@ -99,7 +98,7 @@ destinations code i e =
     }
 
 -- so what writes a mask is one
-pub mask_compares : (code : List ℕ) (i : Instruction) (n : ℕ) → decoded code ≡ Fields i → i.destination ≡ Mask n → i.operation ≡ Compare
+pub mask_compares : (code : List ℕ) (i : Instruction) (n : ℕ) → decoded code ≡ Ok i → i.destination ≡ Mask n → i.operation ≡ Compare
 mask_compares code i n e to = go (is_compare i.operation) refl
   where
     go : (t : Bool) → is_compare i.operation ≡ t → i.operation ≡ Compare
@@ -118,7 +117,7 @@ none_one : some one_suppresses rows ≡ false
 unfolding rows
 none_one = refl
 
-packed_is : (h : Head) (row : Row) → listed h ≡ Found row → (shape row).suppresses ≡ true → (shape row).scalar ≡ false
+packed_is : (h : Head) (row : Row) → listed h ≡ Some row → (shape row).suppresses ≡ true → (shape row).scalar ≡ false
 unfolding listed
 packed_is h row found t =
     let none : passes_test one_suppresses (listed h) ≡ false = none_found one_suppresses rows _ _ _ _ none_one in

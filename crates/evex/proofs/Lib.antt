@@ -1,6 +1,5 @@
 pub mod Shifts
 pub mod Bitwise
-pub mod Signed
 pub mod Search
 pub mod Order
 pub mod Answer

@@ -4,6 +4,7 @@ use mathlib.Core.Path.{◌≡◌, refl, sym, ap, ◌∙◌}
 use mathlib.Core.Bool.{Bool, true, false, cond, not, ◌&&◌, and-true}
 use Prim.Native.Nat.{ℕ}
 use borrow.Author.Tests.{not-false}
+use Rattle.std.specs.Prelude.{Some}
 use Rattle.lists.specs.Lists.{some}
 use Rattle.evex.specs.List.{rows, shape}
 use Rattle.evex.specs.Fields.{head_of, b, register_form, listed, first_source, second, first, instruction}
@@ -11,8 +12,6 @@ use Rattle.evex.specs.Decode.{scalar_broadcast, reserved_forms}
 use Rattle.evex.specs.Scalar.{ScalarForms}
 use Rattle.evex.specs.declared.head.Head.{Head}
 use Rattle.evex.specs.declared.list.Row.{Row}
-use Rattle.evex.specs.declared.list.Listed.TheVariants.{Found}
-use Rattle.evex.specs.declared.Source.TheVariants as source
 use Rattle.evex.specs.declared.Address.{Address}
 use Rattle.evex.specs.declared.Operand.{Operand}
 use Rattle.evex.specs.declared.Operand.TheVariants as operand
@@ -30,7 +29,7 @@ none_without : some without_first rows ≡ false
 unfolding rows
 none_without = refl
 
-first_is : (h : Head) (row : Row) → listed h ≡ Found row → (shape row).scalar ≡ true → first h row ≡ source.Register (first_source h)
+first_is : (h : Head) (row : Row) → listed h ≡ Some row → (shape row).scalar ≡ true → first h row ≡ Some (first_source h)
 unfolding listed first
 first_is h row found t =
     let none : passes_test without_first (listed h) ≡ false = none_found without_first rows _ _ _ _ none_without in

@@ -1,38 +1,16 @@
--- A search of the list of instructions: it ends at the first row, or goes on after it; which rows it may pass; and what no row is that it
--- finds.
+-- A search of the list of instructions: which rows it may pass; and what no row is that it finds.
 -- Assumes nothing.
 use mathlib.Core.Path.{◌≡◌, refl}
 use mathlib.Core.Bool.{Bool, true, false, ◌&&◌, and-false, true≢false}
 use mathlib.Core.List.{List, [], ◌∷◌}
-use Prim.Native.Nat.{ℕ, zero, suc, ◌≤◌}
-use native.Mathlib.Omega.{arith}
+use Prim.Native.Nat.{ℕ, zero, suc}
 use lib.Dec.{eqb}
-use lib.ListN.{length, take, drop, drop_of_length-le}
+use lib.ListN.{take, drop}
+use Rattle.std.specs.Prelude.{Option, Some, None}
 use Rattle.lists.specs.Lists.{some}
 use Rattle.lists.proofs.Tests.{either, neither}
 use Rattle.evex.specs.declared.list.Row.{Row}
-use Rattle.evex.specs.declared.list.Listed.{Listed}
-use Rattle.evex.specs.declared.list.Listed.TheVariants.{Found, Nothing}
 use Rattle.evex.specs.List.{is_for, find}
-
--- what is none of the numbers below n, as the last arm of a `match` says it
-abbrev pub NoneBelow : ℕ → ℕ → Type 0
-NoneBelow zero i = Unit {0}
-NoneBelow (suc n) i = NoneBelow n i × (i ≡ n → ⊥)
-
-pub beyond : (n i : ℕ) → NoneBelow n i → n ≤ i
-beyond zero i h = omega arith
-beyond (suc n) i h = omega (arith, beyond n i h.0, h.1)
-
-module _ {l m : List Row} {r : Row} (prefix map w opcode : ℕ) (e : l ≡ r ∷ m) where
-  pub ends : is_for r prefix map w opcode ≡ true → Found r ≡ find l prefix map w opcode
-  ends t = rw (e, t)
-
-  pub passes : is_for r prefix map w opcode ≡ false → find m prefix map w opcode ≡ find l prefix map w opcode
-  passes t = rw (e, t)
-
-pub nothing_left : (l : List Row) (prefix map w opcode i : ℕ) → length l ≤ i → Nothing ≡ find (drop i l) prefix map w opcode
-nothing_left l prefix map w opcode i h = rw (drop_of_length-le l {i = i} h)
 
 -- rows that are passed, since none of them has the prefix and the opcode
 pub skips : (l : List Row) (n prefix map w opcode : ℕ) → some (λ row. eqb row.0 prefix && eqb row.3 opcode) (take n l) ≡ false
@@ -59,9 +37,9 @@ without (r ∷ l) prefix opcode e =
     rw (both.0, and-false (eqb r.0 prefix)) (without l prefix opcode both.1)
 
 -- what passes a test that no row passes: nothing that is found
-abbrev pub passes_test : (Row → Bool) → Listed → Bool
-passes_test p (Found row) = p row
-passes_test p Nothing = false
+abbrev pub passes_test : (Row → Bool) → Option Row → Bool
+passes_test p (Some row) = p row
+passes_test p None = false
 
 pub none_found : (p : Row → Bool) (l : List Row) (prefix map w opcode : ℕ) → some p l ≡ false
     → passes_test p (find l prefix map w opcode) ≡ false

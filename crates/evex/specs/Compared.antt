@@ -1,6 +1,6 @@
 -- docs/RULES.md, R3.6, R3.8 and R4.10: what a decoded instruction writes, and what b is in register form. The statements; their proofs are
 -- in proofs/Compared.antt.
-use Rattle.std.specs.Prelude.{ℕ, ◌<◌, ◌≡◌, ◌≢◌, true, false, List}
+use Rattle.std.specs.Prelude.{ℕ, ◌<◌, ◌≡◌, ◌≢◌, true, false, List, Ok}
 use Rattle.half.specs.Modes.{mode_of_bits}
 use Rattle.evex.specs.Fields.{head_of, length_bits, register_b}
 use Rattle.evex.specs.Decode.{decoded}
@@ -9,7 +9,6 @@ use Rattle.evex.specs.declared.Operation.TheVariants.{Compare}
 use Rattle.evex.specs.declared.Rounding.TheVariants.{Control, Embedded, Suppressed}
 use Rattle.evex.specs.declared.Destination.TheVariants.{Vector, Mask}
 use Rattle.evex.specs.declared.Instruction.{Instruction}
-use Rattle.evex.specs.declared.Decoded.TheVariants.{Fields}
 
 -- R3.6, R4.10: what an instruction writes
 pub record Writes (i : Instruction) : Type 0 where
@@ -20,7 +19,7 @@ pub record Writes (i : Instruction) : Type 0 where
 
 -- R3.6: every instruction.
 abbrev pub Destinations : Type 0
-Destinations = (code : List ℕ) (i : Instruction) → decoded code ≡ Fields i → Writes i
+Destinations = (code : List ℕ) (i : Instruction) → decoded code ≡ Ok i → Writes i
 
 -- R3.8: what b in register form makes of an instruction that begins so
 pub record ByB (h : Head) (i : Instruction) : Type 0 where
@@ -33,4 +32,4 @@ pub record ByB (h : Head) (i : Instruction) : Type 0 where
 
 -- R3.8: every instruction.
 abbrev pub SuppressedForms : Type 0
-SuppressedForms = (code : List ℕ) (i : Instruction) → decoded code ≡ Fields i → ByB (head_of code) i
+SuppressedForms = (code : List ℕ) (i : Instruction) → decoded code ≡ Ok i → ByB (head_of code) i

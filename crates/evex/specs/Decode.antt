@@ -1,5 +1,6 @@
 -- docs/RULES.md, R4.5 to R4.11: the refusals that an instruction's bytes decide, in their order, and its fields where none applies.
 use Rattle.std.specs.Prelude.{ℕ, Bool, true, false, not, ◌&&◌, ◌||◌, List, [], ◌∷◌, ◌++◌, map, eqb, ltb, length}
+use Rattle.std.specs.Prelude.{Result, Ok, Err, Option, Some, None}
 use Rattle.lists.specs.Lists.{first_of}
 use Rattle.evex.specs.Bits.{is_set, byte}
 use Rattle.evex.specs.List.{shape}
@@ -7,12 +8,9 @@ use Rattle.evex.specs.Fields.{head_of, listed, length_bits, b, register_form, re
 use Rattle.evex.specs.Fields.{instruction}
 use Rattle.evex.specs.declared.head.Head.{Head}
 use Rattle.evex.specs.declared.list.Row.{Row}
-use Rattle.evex.specs.declared.list.Listed.{Listed}
-use Rattle.evex.specs.declared.list.Listed.TheVariants.{Found, Nothing}
+use Rattle.evex.specs.declared.Instruction.{Instruction}
 use Rattle.evex.specs.declared.Refusal.{Refusal}
 use Rattle.evex.specs.declared.Refusal.TheVariants.{Incomplete, Unlisted, Reserved}
-use Rattle.evex.specs.declared.Decoded.{Decoded}
-use Rattle.evex.specs.declared.Decoded.TheVariants.{Fields, Refused}
 
 -- R4.1: the numbers. R4.12: 6 is none of them.
 abbrev pub number_of : Refusal → ℕ
@@ -39,9 +37,9 @@ unfoldable pub wrong_fixed_bits : Head → Bool
 wrong_fixed_bits h = is_set h.byte1 3 || not (is_set h.byte2 2)
 
 -- R4.9: no row of the list. R2.3: so every other opcode is refused.
-unfoldable pub not_in_list : Listed → Bool
-not_in_list (Found row) = false
-not_in_list Nothing = true
+unfoldable pub not_in_list : Option Row → Bool
+not_in_list (Some row) = false
+not_in_list None = true
 
 -- R4.10: length bits 3, but for b in register form, where they are no length (R3.8). Every row reserves them.
 unfoldable pub reserved_length : Head → Bool
@@ -86,9 +84,9 @@ bytes_missing h row code = ltb (length code) (size h row)
 -- ---- R4.2: the order
 
 -- by the row, where there is one
-abbrev pub of_row : {A : Type 0} → Listed → A → (Row → A) → A
-of_row (Found row) otherwise f = f row
-of_row Nothing otherwise f = otherwise
+abbrev pub of_row : {A : Type 0} → Option Row → A → (Row → A) → A
+of_row (Some row) otherwise f = f row
+of_row None otherwise f = otherwise
 
 -- from R4.5 to R4.9
 unfoldable pub head_conditions : List ℕ → List (Bool × Refusal)
@@ -115,11 +113,11 @@ refusals code =
 -- ---- R4.2: decoding
 
 -- The fields, where nothing refuses. (Without a row `not_in_list` has refused.)
-abbrev pub fields : Head → List ℕ → Listed → Decoded
-fields h code l = of_row l (Refused Unlisted) (λ row. Fields (instruction h row code))
+abbrev pub fields : Head → List ℕ → Option Row → Result Instruction Refusal
+fields h code l = of_row l (Err Unlisted) (λ row. Ok (instruction h row code))
 
 -- The refusal that comes first, or else the fields. (R11.5 calls code decoded only where, besides, neither R4.3 nor R4.4 holds.)
-unfoldable pub decoded : List ℕ → Decoded
+unfoldable pub decoded : List ℕ → Result Instruction Refusal
 decoded code =
     let h : Head = head_of code in
-    first_of (map (λ c. (c.0, Refused c.1)) (refusals code)) (fields h code (listed h))
+    first_of (map (λ c. (c.0, Err c.1)) (refusals code)) (fields h code (listed h))

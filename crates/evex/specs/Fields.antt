@@ -1,22 +1,18 @@
 -- docs/RULES.md, section 3: the fields of an instruction, first what its bytes say whatever their row, then what they say with it, each in
 -- the section's order. Of bytes that are refused they do not count (Decode.antt).
-use Rattle.std.specs.Prelude.{ℕ, ◌+◌, ◌*◌, Bool, cond, not, ◌&&◌, ◌||◌, List, eqb, ℤ, pos, ◌*ℤ◌}
+use Rattle.std.specs.Prelude.{ℕ, ◌+◌, ◌*◌, Bool, cond, not, ◌&&◌, ◌||◌, List, eqb, ℤ, pos, ◌*ℤ◌, Option, Some, None}
 use Rattle.half.specs.Modes.{mode_of_bits}
 use Rattle.evex.specs.Bits.{bits, is_set, inverted, byte, four_bytes, signed}
 use Rattle.evex.specs.List.{rows, find, operation, shape}
 use Rattle.evex.specs.declared.head.Head.{Head}
 use Rattle.evex.specs.declared.list.Row.{Row}
-use Rattle.evex.specs.declared.list.Listed.{Listed}
 use Rattle.evex.specs.declared.Rounding.{Rounding}
 use Rattle.evex.specs.declared.Rounding.TheVariants.{Control, Embedded, Suppressed}
 use Rattle.evex.specs.declared.Destination.{Destination}
 use Rattle.evex.specs.declared.Destination.TheVariants.{Vector, Mask}
-use Rattle.evex.specs.declared.Source.{Source}
-use Rattle.evex.specs.declared.Source.TheVariants as source
 use Rattle.evex.specs.declared.Base.{Base}
 use Rattle.evex.specs.declared.Base.TheVariants as base
 use Rattle.evex.specs.declared.Index.{Index}
-use Rattle.evex.specs.declared.Index.TheVariants as index
 use Rattle.evex.specs.declared.Operand.{Operand}
 use Rattle.evex.specs.declared.Operand.TheVariants as operand
 use Rattle.evex.specs.declared.Instruction.{Instruction}
@@ -97,7 +93,7 @@ module _ (h : Head) where
   -- ---- the row, and the registers
 
   -- R4.9: the row of the list that these bytes have, if there is one.
-  unfoldable pub listed : Listed
+  unfoldable pub listed : Option Row
   listed = find rows prefix_bits map_bits W h.opcode
 
   -- R3.6: the numbers of registers.
@@ -137,16 +133,16 @@ module _ (h : Head) where
   abbrev pub index_number : ℕ
   index_number = X * 8 + bits h.sib 3 3
 
-  unfoldable pub index_of : Index
-  index_of = cond (has_sib && not (eqb index_number 4)) (index.Scaled index_number (bits h.sib 6 2)) index.None
+  unfoldable pub index_of : Option Index
+  index_of = cond (has_sib && not (eqb index_number 4)) (Some (record { number = index_number; scale = bits h.sib 6 2 })) None
 
   -- R3.11: no register is the base.
   unfoldable pub no_base : Bool
   no_base = eqb mod_bits 0 && eqb base_bits 5
 
   -- R3.11: a general register, or what takes its place.
-  unfoldable pub base_of : Base
-  base_of = cond no_base (cond has_sib base.None base.NextInstruction) (base.General (B * 8 + base_bits))
+  unfoldable pub base_of : Option Base
+  base_of = cond no_base (cond has_sib None (Some base.NextInstruction)) (Some (base.General (B * 8 + base_bits)))
 
   -- R3.12: where the displacement stands, and how many bytes it has.
   unfoldable pub displacement_at : ℕ
@@ -169,8 +165,8 @@ module _ (h : Head) (row : Row) where
   destination_of = cond (shape row).mask (Mask (destination h)) (Vector (destination h))
 
   -- R2.2, R3.6: the first source, where there is one.
-  unfoldable pub first : Source
-  first = cond (shape row).first (source.Register (first_source h)) source.None
+  unfoldable pub first : Option ℕ
+  first = cond (shape row).first (Some (first_source h)) None
 
   -- R3.7: the elements that the operation works on: one, or as many as a vector has lanes.
   unfoldable pub elements : ℕ

@@ -1,12 +1,10 @@
 -- docs/RULES.md, R2.1 and R2.2: the list of instructions, a row for each. A new instruction is a new row.
-use Rattle.std.specs.Prelude.{ℕ, Bool, true, false, cond, ◌&&◌, List, [], ◌∷◌, eqb}
+use Rattle.std.specs.Prelude.{ℕ, Bool, true, false, cond, ◌&&◌, List, [], ◌∷◌, eqb, Option, Some, None}
 use Rattle.evex.specs.declared.Operation.{Operation}
 use Rattle.evex.specs.declared.Operation.TheVariants.{Add, Multiply, Subtract, Divide, SquareRoot, Fused132, Fused213, Fused231}
 use Rattle.evex.specs.declared.Operation.TheVariants.{Minimum, Maximum, Compare}
 use Rattle.evex.specs.declared.Shape.{Shape}
 use Rattle.evex.specs.declared.list.Row.{Row}
-use Rattle.evex.specs.declared.list.Listed.{Listed}
-use Rattle.evex.specs.declared.list.Listed.TheVariants.{Found, Nothing}
 
 -- ---- R2.2: shapes
 
@@ -89,6 +87,6 @@ abbrev pub shape : Row → Shape
 shape r = r.5
 
 -- R4.9: the row that has them, or that there is none.
-abbrev pub find : List Row → ℕ → ℕ → ℕ → ℕ → Listed
-find [] prefix map w opcode = Nothing
-find (r ∷ rs) prefix map w opcode = cond (is_for r prefix map w opcode) (Found r) (find rs prefix map w opcode)
+abbrev pub find : List Row → ℕ → ℕ → ℕ → ℕ → Option Row
+find [] prefix map w opcode = None
+find (r ∷ rs) prefix map w opcode = cond (is_for r prefix map w opcode) (Some r) (find rs prefix map w opcode)

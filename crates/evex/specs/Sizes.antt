@@ -1,11 +1,10 @@
 -- docs/RULES.md, R3.14: how many bytes an instruction has. The statements; their proofs are in proofs/Sizes.antt.
-use Rattle.std.specs.Prelude.{ℕ, ◌+◌, ◌≤◌, ◌≡◌, List, [], ◌∷◌, length}
+use Rattle.std.specs.Prelude.{ℕ, ◌+◌, ◌≤◌, ◌≡◌, List, [], ◌∷◌, length, Ok}
 use Rattle.evex.specs.Fields.{size}
 use Rattle.evex.specs.Decode.{decoded}
 use Rattle.evex.specs.declared.head.Head.{Head}
 use Rattle.evex.specs.declared.list.Row.{Row}
 use Rattle.evex.specs.declared.Instruction.{Instruction}
-use Rattle.evex.specs.declared.Decoded.TheVariants.{Fields}
 
 -- R3.14: 6, byte 62 and the prefix, opcode, ModRM.
 abbrev pub shortest : ℕ
@@ -25,11 +24,11 @@ IsSize code n = (shortest ≤ n) × (n ≤ longest) × (n ≤ length code)
 
 -- R3.14: whatever is decoded has so many.
 abbrev pub DecodedSizes : Type 0
-DecodedSizes = (code : List ℕ) (i : Instruction) → decoded code ≡ Fields i → IsSize code i.size
+DecodedSizes = (code : List ℕ) (i : Instruction) → decoded code ≡ Ok i → IsSize code i.size
 
 -- R3.14: the code is decoded, as n bytes
 abbrev pub DecodedAs : List ℕ → ℕ → Type 0
-DecodedAs code n = (i : Instruction) × (decoded code ≡ Fields i) × (i.size ≡ n)
+DecodedAs code n = (i : Instruction) × (decoded code ≡ Ok i) × (i.size ≡ n)
 
 -- R3.14: neither bound can be closer. VADDPH of registers 1 and 2; VCMPPH of register 1 and memory, with a SIB byte and four bytes of
 -- displacement.

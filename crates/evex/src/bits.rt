@@ -1,6 +1,8 @@
-// Bits of bytes, and the signed numbers that bytes stand for.
+// Bits of bytes, and the numbers that bytes stand for.
+#![tactic(auto, using(crate::proofs::Shifts::masked, crate::proofs::Shifts::flipped, crate::proofs::Shifts::beside))]
+
 ghost use Rattle.std.specs.Prelude.{◌≡◌, ◌+◌, ◌*◌, ◌<◌, ◌^◌, get_or, pos, ◌*ℤ◌};
-ghost use Rattle.evex.specs.Bits.{bits, is_set, inverted, signed, four_bytes};
+ghost use Rattle.evex.specs.Bits.{bits, is_set, inverted, four_bytes};
 
 // `width` bits of a byte, from bit `at` on.
 pub(crate) fn bits(x: u8, at: u8, width: u8) -> u8
@@ -38,23 +40,14 @@ pub(crate) fn register(high: u8, middle: u8, low: u8) -> usize
     requires { (high < 2) × (middle < 2) × (low < 8) }
     ensures { result ≡ high * 16 + middle * 8 + low }
 {
-    joined(high, 4, joined(middle, 3, low)) as usize
+    usize::from(joined(high, 4, joined(middle, 3, low)))
 }
 
 // The byte at a place; 0 past the end.
 pub(crate) fn byte_at(code: &[u8], at: usize) -> u8
     ensures { result ≡ get_or code.now at 0 }
 {
-    if at < code.len() {
-        return code[at];
-    }
-    0
-}
-
-fn wide(x: u8) -> u32
-    ensures { (result ≡ x) × (result < 256) }
-{
-    x as u32
+    code.get(at).copied().unwrap_or(0)
 }
 
 // The number of four bytes, the lowest first.
@@ -62,37 +55,17 @@ pub(crate) fn four_bytes_at(code: &[u8], at: usize) -> u32
     requires { at < 16 }
     ensures { result ≡ four_bytes code.now at }
 {
-    wide(byte_at(code, at))
-        + wide(byte_at(code, at + 1)) * 0x100
-        + wide(byte_at(code, at + 2)) * 0x1_0000
-        + wide(byte_at(code, at + 3)) * 0x100_0000
-}
-
-// The byte as a number from -128 to 127.
-pub(crate) fn signed8(x: u8) -> i8
-    ensures { result ≡ signed 8 x }
-{
-    if x < 0x80 {
-        x as i8
-    } else {
-        -1 - ((0xff - x) as i8)
-    }
-}
-
-// The 32 bits as a signed number.
-pub(crate) fn signed32(x: u32) -> i32
-    ensures { result ≡ signed 32 x }
-{
-    if x < 0x8000_0000 {
-        x as i32
-    } else {
-        -1 - ((0xffff_ffff - x) as i32)
-    }
+    u32::from_le_bytes([
+        byte_at(code, at),
+        byte_at(code, at + 1),
+        byte_at(code, at + 2),
+        byte_at(code, at + 3),
+    ])
 }
 
 // R3.13: a displacement of one byte, in bytes.
 pub(crate) fn scaled(d: i8, n: u8) -> i32
     ensures { result ≡ d *ℤ pos n }
 {
-    (d as i32) * (n as i32)
+    i32::from(d) * i32::from(n)
 }

@@ -1,5 +1,7 @@
 // The bytes of an instruction up to its displacement, and what they say whatever their row.
-ghost use Rattle.std.specs.Prelude.{◌≡◌, cond, ◌≤◌, ◌<◌, length};
+#![tactic(auto, unfolding(crate::specs::Fields::takes_sib, crate::specs::Fields::head_of, crate::specs::Fields::listed, crate::specs::Fields::register_form, crate::specs::Fields::register_b, crate::specs::Fields::vector_lanes, crate::specs::Fields::has_sib, crate::specs::Fields::base_bits, crate::specs::Fields::index_of, crate::specs::Fields::no_base, crate::specs::Fields::base_of, crate::specs::Fields::displacement_at, crate::specs::Fields::displacement_size, crate::specs::Fields::second, crate::specs::Decode::wrong_fixed_bits, crate::specs::Decode::reserved_length, crate::specs::Decode::zeroing_without_mask))]
+
+ghost use Rattle.std.specs.Prelude.{◌≡◌, cond, ◌+◌, ◌≤◌, ◌<◌, length};
 ghost use Rattle.evex.specs.Bits.{byte};
 ghost use Rattle.evex.specs.Fields.{takes_sib, head_of, z, aaa, b, length_bits, register_form, register_b, vector_lanes, listed, destination};
 ghost use Rattle.evex.specs.Fields.{first_source, second_source, has_sib, base_bits, no_base, base_of, index_number, index_of, displacement_at};
@@ -7,7 +9,7 @@ ghost use Rattle.evex.specs.Fields.{displacement_size, second};
 ghost use Rattle.evex.specs.Decode.{wrong_fixed_bits, reserved_length, zeroing_without_mask};
 
 use super::bits::{bits, byte_at, inverted, is_set, joined, register};
-use super::list::{Listed, find};
+use super::list::{Row, find};
 use super::{Address, Base, Index, Operand};
 
 // R3.1. `sib` is 0 where there is no SIB byte.
@@ -70,7 +72,7 @@ impl Head {
     pub(crate) fn mask(self) -> usize
         ensures { result ≡ aaa self }
     {
-        bits(self.byte3, 0, 3) as usize
+        usize::from(bits(self.byte3, 0, 3))
     }
 
     pub(crate) fn has_b(self) -> bool
@@ -108,7 +110,7 @@ impl Head {
     pub(crate) fn first_source(self) -> usize
         ensures { result ≡ first_source self }
     {
-        joined(inverted(self.byte3, 3, 1), 4, inverted(self.byte2, 3, 4)) as usize
+        usize::from(joined(inverted(self.byte3, 3, 1), 4, inverted(self.byte2, 3, 4)))
     }
 
     // R3.6: X, B, rm.
@@ -159,16 +161,17 @@ impl Head {
         (bits(self.modrm, 6, 2) == 0) & (self.base_bits() == 5)
     }
 
-    fn base(self) -> Base
+    fn base(self) -> Option<Base>
         ensures { result ≡ base_of self }
     {
         if self.has_no_base() {
             if self.has_sib() {
-                return Base::None;
+                return None;
             }
-            return Base::NextInstruction;
+            return Some(Base::NextInstruction);
         }
-        Base::General(register(0, inverted(self.byte1, 5, 1), self.base_bits()))
+        let number = register(0, inverted(self.byte1, 5, 1), self.base_bits());
+        Some(Base::General(number))
     }
 
     // X and the index bits of the SIB byte.
@@ -179,17 +182,17 @@ impl Head {
     }
 
     // R3.10: number 4 is none.
-    fn index(self) -> Index
+    fn index(self) -> Option<Index>
         ensures { result ≡ index_of self }
     {
         let number = self.index_number();
         if self.has_sib() & (number != 4) {
-            return Index::Scaled {
+            return Some(Index {
                 number,
                 scale: bits(self.sib, 6, 2),
-            };
+            });
         }
-        Index::None
+        None
     }
 
     pub(crate) fn displacement_at(self) -> usize
@@ -212,6 +215,13 @@ impl Head {
             return 4;
         }
         0
+    }
+
+    // Behind all else that the head gives (R3.15).
+    pub(crate) fn immediate_at(self) -> usize
+        ensures { (result ≡ displacement_at self + displacement_size self) × (result ≤ 11) }
+    {
+        self.displacement_at() + self.displacement_size()
     }
 
     // R3.6, R3.8.
@@ -241,7 +251,7 @@ impl Head {
         is_set(self.byte1, 3) | !is_set(self.byte2, 2)
     }
 
-    pub(crate) fn listed(self) -> Listed
+    pub(crate) fn listed(self) -> Option<Row>
         ensures { result ≡ listed self }
     {
         let prefix = bits(self.byte2, 0, 2);

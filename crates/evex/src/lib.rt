@@ -1,15 +1,14 @@
 // The bytes of an instruction: its fields (R3.1 to R3.15), or why they are refused (R4.5 to R4.11).
 #![tactic(auto)]
 
-ghost use Rattle.std.specs.Prelude.{◌≡◌, map};
+ghost use Rattle.std.specs.Prelude.{◌≡◌, map, Ok, Err};
 ghost use Rattle.lists.specs.Lists.{first_of};
 ghost use Rattle.evex.specs.Fields.{instruction};
 ghost use Rattle.evex.specs.Decode.{row_conditions, decoded, number_of};
-ghost use Rattle.evex.specs.declared.Decoded.TheVariants.{Fields, Refused};
 
+use form::Form;
 use half::Mode;
 use head::Head;
-use list::{Listed, Row};
 
 mod bits;
 mod form;
@@ -60,32 +59,24 @@ pub enum Destination {
     Mask(usize),
 }
 
-// The first source: a vector register, or none.
-#[derive(Clone, Copy)]
-pub enum Source {
-    None,
-    Register(usize),
-}
-
-// What an address starts from: nothing, a general register, or the next instruction's address.
+// What an address starts from: a general register, or the next instruction's address.
 #[derive(Clone, Copy)]
 pub enum Base {
-    None,
     General(usize),
     NextInstruction,
 }
 
 // The general register whose value times 2 to the `scale` is added.
 #[derive(Clone, Copy)]
-pub enum Index {
-    None,
-    Scaled { number: usize, scale: u8 },
+pub struct Index {
+    pub number: usize,
+    pub scale: u8,
 }
 
 #[derive(Clone, Copy)]
 pub struct Address {
-    pub base: Base,
-    pub index: Index,
+    pub base: Option<Base>,
+    pub index: Option<Index>,
     pub displacement: i32,
 }
 
@@ -98,6 +89,7 @@ pub enum Operand {
 
 // The fields of an instruction. Elements are 1, 8, 16 or 32, one to a lane from lane 0 on (R3.7); `mask` is aaa (R5.1); the immediate is 0
 // where there is none; the size is the length in bytes (R3.14).
+// Its bounds are no ghost field: `destination_of` (specs/Fields.antt) makes one of any bytes, and a mask above 7 where R4.10 refuses.
 #[derive(Clone, Copy)]
 pub struct Instruction {
     pub operation: Operation,
@@ -107,7 +99,7 @@ pub struct Instruction {
     pub zeroing: bool,
     pub mask: usize,
     pub destination: Destination,
-    pub first: Source,
+    pub first: Option<usize>,
     pub second: Operand,
     pub immediate: u8,
     pub size: usize,
@@ -119,12 +111,6 @@ pub enum Refusal {
     Incomplete,
     Unlisted,
     Reserved,
-}
-
-#[derive(Clone, Copy)]
-pub enum Decoded {
-    Fields(Instruction),
-    Refused(Refusal),
 }
 
 impl Refusal {
@@ -141,42 +127,38 @@ impl Refusal {
 }
 
 // From R4.10 on. By itself, since the compiler takes what stands behind many tests for rare, and would not inline the fields.
-fn decode_row(head: Head, row: Row, code: &[u8]) -> Decoded
+fn decode_row(form: Form, code: &[u8]) -> Result<Instruction, Refusal>
     ensures { result
-        ≡ first_of (map (λ c. (c.0, Refused c.1)) (row_conditions head code.now row))
-        (Fields (instruction head row code.now)) }
+        ≡ first_of (map (λ c. (c.0, Err c.1)) (row_conditions form.head code.now form.row))
+        (Ok (instruction form.head form.row code.now)) }
 {
-    if form::is_reserved(head, row) {
-        return Decoded::Refused(Refusal::Reserved);
+    if form.is_reserved() {
+        return Err(Refusal::Reserved);
     }
-    let at = head.displacement_at();
-    let bytes = head.displacement_size();
-    let length = form::size(row, at, bytes);
-    if code.len() < length {
-        return Decoded::Refused(Refusal::Incomplete);
+    if code.len() < form.size() {
+        return Err(Refusal::Incomplete);
     }
-    Decoded::Fields(form::instruction(head, row, code, at, bytes, length))
+    Ok(form.instruction(code))
 }
 
 // The instruction that the bytes begin with, in the order of R4.2. What follows it has no effect (R4.18).
-pub fn decode(code: &[u8]) -> Decoded
+#[tactic(auto, unfolding(crate::specs::Decode::decoded, crate::specs::Decode::refusals, crate::specs::Decode::head_conditions, crate::specs::Decode::no_bytes, crate::specs::Decode::wrong_first_byte, crate::specs::Decode::fewer_than_six_bytes, crate::specs::Decode::not_in_list))]
+pub fn decode(code: &[u8]) -> Result<Instruction, Refusal>
     ensures { result ≡ decoded code.now }
 {
-    if code.len() == 0 {
-        return Decoded::Refused(Refusal::Incomplete);
+    if code.is_empty() {
+        return Err(Refusal::Incomplete);
     }
     if code[0] != 0x62 {
-        return Decoded::Refused(Refusal::Unlisted);
+        return Err(Refusal::Unlisted);
     }
     if code.len() < 6 {
-        return Decoded::Refused(Refusal::Incomplete);
+        return Err(Refusal::Incomplete);
     }
     let head = Head::of(code);
     if head.has_wrong_fixed_bits() {
-        return Decoded::Refused(Refusal::Reserved);
+        return Err(Refusal::Reserved);
     }
-    let Listed::Found(row) = head.listed() else {
-        return Decoded::Refused(Refusal::Unlisted);
-    };
-    decode_row(head, row, code)
+    let row = head.listed().ok_or(Refusal::Unlisted)?;
+    decode_row(Form { head, row }, code)
 }

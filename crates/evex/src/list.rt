@@ -1,4 +1,6 @@
 // The list of instructions (R2.1).
+#![tactic(auto, unfolding(crate::specs::List::rows))]
+
 ghost use Rattle.std.specs.Prelude.{◌≡◌, false, ◌&&◌, ◌∷◌, ℕ, ◌+◌, ◌<◌, ◌≤◌, eqb, length, take, drop};
 ghost use Rattle.lists.specs.Lists.{some};
 ghost use Rattle.evex.specs.List.{rows, operation, shape, find};
@@ -8,12 +10,6 @@ use super::{Operation, Shape};
 // A row of the table: prefix bits, map, W, opcode, operation, shape.
 #[derive(Clone, Copy)]
 pub struct Row(pub u8, pub u8, pub u8, pub u8, pub Operation, pub Shape);
-
-#[derive(Clone, Copy)]
-pub enum Listed {
-    Found(Row),
-    Nothing,
-}
 
 // R2.2: two sources; the second alone; two and the destination.
 const PACKED: Shape = Shape {
@@ -26,59 +22,38 @@ const PACKED: Shape = Shape {
 };
 
 const ROOT: Shape = Shape {
-    scalar: false,
     first: false,
-    accumulates: false,
-    suppresses: false,
-    mask: false,
-    immediate: false,
+    ..PACKED
 };
 
 const FUSED: Shape = Shape {
-    scalar: false,
-    first: true,
     accumulates: true,
-    suppresses: false,
-    mask: false,
-    immediate: false,
+    ..PACKED
 };
 
 // R2.2, R3.7: one element.
 const SCALAR: Shape = Shape {
     scalar: true,
-    first: true,
-    accumulates: false,
-    suppresses: false,
-    mask: false,
-    immediate: false,
+    ..PACKED
 };
 
 const FUSED_SCALAR: Shape = Shape {
     scalar: true,
-    first: true,
     accumulates: true,
-    suppresses: false,
-    mask: false,
-    immediate: false,
+    ..PACKED
 };
 
 // R3.8: nothing is rounded. R3.6, R3.15: and a mask is written, by an immediate.
 const SELECTING: Shape = Shape {
-    scalar: false,
-    first: true,
-    accumulates: false,
     suppresses: true,
-    mask: false,
-    immediate: false,
+    ..PACKED
 };
 
 const COMPARING: Shape = Shape {
-    scalar: false,
-    first: true,
-    accumulates: false,
     suppresses: true,
     mask: true,
     immediate: true,
+    ..PACKED
 };
 
 const COUNT: usize = 19;
@@ -164,16 +139,14 @@ fn first_row(prefix: u8, opcode: u8) -> usize
 }
 
 // The row that has these.
-pub(crate) fn find(prefix: u8, map: u8, w: u8, opcode: u8) -> Listed
+pub(crate) fn find(prefix: u8, map: u8, w: u8, opcode: u8) -> Option<Row>
     ensures { result ≡ find rows prefix map w opcode }
 {
-    let mut i = first_row(prefix, opcode);
-    while i < COUNT {
+    for i in first_row(prefix, opcode)..COUNT {
         let row = row_at(i);
         if (row.0 == prefix) & (row.1 == map) & (row.2 == w) & (row.3 == opcode) {
-            return Listed::Found(row);
+            return Some(row);
         }
-        i += 1;
     }
-    Listed::Nothing
+    None
 }

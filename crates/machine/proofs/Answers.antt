@@ -12,12 +12,12 @@ use borrow.Author.Tests.{eqb-true}
 use lib.Bits.{bit_or, or_zero_r}
 use lib.Dec.{eqb, lit≤}
 use lib.ListN.{take}
+use Rattle.std.specs.Prelude.{Result, Ok, Err}
 use Rattle.evex.specs.Decode.{decoded}
 use Rattle.evex.specs.declared.Instruction.{Instruction}
 use Rattle.evex.specs.declared.Rounding.{Rounding}
 use Rattle.evex.specs.declared.Rounding.TheVariants.{Control, Embedded, Suppressed}
-use Rattle.evex.specs.declared.Decoded.{Decoded}
-use Rattle.evex.specs.declared.Decoded.TheVariants.{Fields, Refused}
+use Rattle.evex.specs.declared.Refusal.{Refusal}
 use Rattle.evex.proofs.After.{after, by_longest}
 use Rattle.evex.proofs.Sizes.{decoded_sizes}
 use Rattle.machine.specs.State.{State}
@@ -45,11 +45,11 @@ module _ (memory : List ℕ) (s : State) (code : List ℕ) where
   unfolding step stopped completed
   number_is = go (answer_of memory s code) (decoded code)
     where
-      go : (n : ℕ) (d : Decoded)
+      go : (n : ℕ) (d : Result Instruction Refusal)
           → (of_fields d (refused n s) (λ (i : Instruction). cond (eqb n 0) (completed memory s i)
           (cond (eqb n 8) (stopped memory s i) (refused n s)))).answer.number ≡ n
-      go n (Refused r) = refl
-      go n (Fields i) = picked (eqb n 0) (eqb n 8) refl refl
+      go n (Err r) = refl
+      go n (Ok i) = picked (eqb n 0) (eqb n 8) refl refl
         where
           picked : (z e : Bool) → eqb n 0 ≡ z → eqb n 8 ≡ e
               → (cond z (completed memory s i) (cond e (stopped memory s i) (refused n s))).answer.number ≡ n

@@ -10,6 +10,7 @@ use native.Mathlib.Omega.{arith}
 use borrow.Author.Tests.{eq-eqb, ne_eqb, le-leb, lt-leb, eqb-true, leb-false, not-false}
 use lib.Dec.{eqb, lit≤}
 use lib.ListN.{length}
+use Rattle.std.specs.Prelude.{Result, Ok, Err}
 use Rattle.lists.specs.Lists.{first_of, NoneHolds}
 use Rattle.lists.proofs.Tests.{either}
 use Rattle.lists.proofs.First.{NonZero, first_append, first_found, holds_none}
@@ -17,8 +18,6 @@ use Rattle.evex.specs.Decode.{number_of, refusals, decoded}
 use Rattle.evex.specs.declared.Instruction.{Instruction}
 use Rattle.evex.specs.declared.Refusal.{Refusal}
 use Rattle.evex.specs.declared.Refusal.TheVariants.{Incomplete, Unlisted, Reserved}
-use Rattle.evex.specs.declared.Decoded.{Decoded}
-use Rattle.evex.specs.declared.Decoded.TheVariants.{Fields, Refused}
 use Rattle.evex.proofs.Answer as evex
 use Rattle.machine.specs.State.{State, Stepped}
 use Rattle.machine.specs.Memory.{needs_outside}
@@ -59,9 +58,9 @@ module _ (memory : List ℕ) (s : State) (code : List ℕ) where
   unfolding step
   refuses n e not0 not8 = rw (e, not0, not8) (go (decoded code))
     where
-      go : (d : Decoded) → of_fields d (refused n s) (λ (i : Instruction). refused n s) ≡ refused n s
-      go (Fields i) = refl
-      go (Refused r) = refl
+      go : (d : Result Instruction Refusal) → of_fields d (refused n s) (λ (i : Instruction). refused n s) ≡ refused n s
+      go (Ok i) = refl
+      go (Err r) = refl
 
   pub refuses_size : (length s.vectors ≡ 2048 → ⊥) → step memory s code ≡ refused 1 s
   unfolding wrong_vector_file
@@ -77,11 +76,11 @@ module _ (memory : List ℕ) (s : State) (code : List ℕ) where
       further : answer_of memory s code ≡ evex.number_or rest (decoded code)
       further = answer ∙ rw (before s code, right_size s size, low_control s control)
 
-      pub refuses_decoding : {r : Refusal} → decoded code ≡ Refused r → step memory s code ≡ refused (number_of r) s
+      pub refuses_decoding : {r : Refusal} → decoded code ≡ Err r → step memory s code ≡ refused (number_of r) s
       unfolding step
       refuses_decoding e = rw (further, e)
 
-      module _ {i : Instruction} (fields : decoded code ≡ Fields i) where
+      module _ {i : Instruction} (fields : decoded code ≡ Ok i) where
         pub refuses_memory : needs_outside s i (length memory) ≡ true → step memory s code ≡ refused 7 s
         unfolding step outside_memory
         refuses_memory o = rw (further, fields, o)
@@ -131,11 +130,11 @@ way s code = go (wrong_vector_file s) (high_control_bit s) (decoded code) refl r
     refusal Unlisted e = early 3 e (lit≤ tt)
     refusal Reserved e = early 4 e (lit≤ tt)
 
-    go : (v c : Bool) (d : Decoded) → wrong_vector_file s ≡ v → high_control_bit s ≡ c → decoded code ≡ d → Way s code
+    go : (v c : Bool) (d : Result Instruction Refusal) → wrong_vector_file s ≡ v → high_control_bit s ≡ c → decoded code ≡ d → Way s code
     go true c d e f g = early 0 (rw (before s code, e)) (lit≤ tt)
     go false true d e f g = early 1 (rw (before s code, e, f)) (lit≤ tt)
-    go false false (Refused r) e f g = refusal r (rw (before s code, e, f, g))
-    go false false (Fields i) e f g = fields i (holds_none (before_seven s code) (before_non_zero s code) (rw (before s code, e, f, g)), g)
+    go false false (Err r) e f g = refusal r (rw (before s code, e, f, g))
+    go false false (Ok i) e f g = fields i (holds_none (before_seven s code) (before_non_zero s code) (rw (before s code, e, f, g)), g)
 
 -- of what is decoded neither 1 nor 2 is given
 pub decoded_size : (s : State) (code : List ℕ) → NoneHolds (before_seven s code) → length s.vectors ≡ 2048

@@ -12,6 +12,7 @@ use borrow.Author.Tests.{eqb-true, eq-eqb}
 use lib.Dec.{lit≤}
 use lib.ListN.{get_or, set, length-set, get_or-eq_default}
 use lib.Seq.{get_or-set_same, get_or-set_other}
+use Rattle.std.specs.Prelude.{Ok}
 use Rattle.half.specs.Comparison.{relation, predicate_of, holds, half_compare}
 use Rattle.lists.specs.Lists.{Each, table, binary}
 use Rattle.lists.proofs.Tests.{either}
@@ -23,7 +24,6 @@ use Rattle.evex.specs.declared.Operation.TheVariants.{Compare}
 use Rattle.evex.specs.declared.Destination.{Destination}
 use Rattle.evex.specs.declared.Destination.TheVariants.{Mask}
 use Rattle.evex.specs.declared.Instruction.{Instruction}
-use Rattle.evex.specs.declared.Decoded.TheVariants.{Fields}
 use Rattle.evex.specs.Decode.{decoded}
 use Rattle.evex.proofs.Bounds.{bounds}
 use Rattle.evex.proofs.Compared.{mask_compares}
@@ -49,7 +49,7 @@ pub lane_digit : (s : State) (i : Instruction) (g : Sources) → i.operation ≡
     → cond (on s i j) (lane_of s i g j).value 0 ≤ 1
 lane_digit s i g c j = either (λ n. n ≤ 1) (on s i j) (compared_digit i.operation c _ _ _ _) (lit≤ tt)
 
-module _ (s : State) (code : List ℕ) (i : Instruction) (fields : decoded code ≡ Fields i) (compares : i.operation ≡ Compare) (g : Sources)
+module _ (s : State) (code : List ℕ) (i : Instruction) (fields : decoded code ≡ Ok i) (compares : i.operation ≡ Compare) (g : Sources)
   where
     abbrev lane : ℕ → ℕ
     lane j = cond (on s i j) (lane_of s i g j).value 0

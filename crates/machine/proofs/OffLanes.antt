@@ -10,9 +10,9 @@ use native.Mathlib.Omega.{arith}
 use borrow.Author.Tests.{ltb-true, le-ltb, le-leb, leb-true, ne_eqb, eqb-false, not-true}
 use lib.Bits.{bit_and}
 use lib.Dec.{leb}
+use Rattle.std.specs.Prelude.{Ok}
 use Rattle.evex.specs.Decode.{decoded}
 use Rattle.evex.specs.declared.Instruction.{Instruction}
-use Rattle.evex.specs.declared.Decoded.TheVariants.{Fields}
 use Rattle.evex.proofs.Bounds.{bounds}
 use Rattle.lists.specs.Lists.{some, table}
 use Rattle.lists.proofs.Tables.{some_has, some_member, table_member, member_table, meets, or_meets}
@@ -33,7 +33,7 @@ above_off s i j h = rw (le-ltb j i.elements h)
 pub scalar_lanes : ScalarLanes
 scalar_lanes s code i fields one j t = omega (arith, element_below s i j t, (bounds code fields).one one)
 
-module _ (s : State) (code : List ℕ) (i : Instruction) (fields : decoded code ≡ Fields i) where
+module _ (s : State) (code : List ℕ) (i : Instruction) (fields : decoded code ≡ Ok i) where
   on_below : (j : ℕ) → on s i j ≡ true → j < 32
   on_below j t = omega (arith, element_below s i j t, (bounds code fields).elements)
 

@@ -10,10 +10,9 @@ use mathlib.Core.Bool.{Bool, true}
 use mathlib.Core.List.{List, [], ◌∷◌}
 use native.Mathlib.Omega.{arith}
 use lib.ListN.{length, get_or}
+use Rattle.std.specs.Prelude.{Option, Some, None}
 use Rattle.evex.specs.declared.Destination.{Destination}
 use Rattle.evex.specs.declared.Destination.TheVariants.{Vector, Mask}
-use Rattle.evex.specs.declared.Source.{Source}
-use Rattle.evex.specs.declared.Source.TheVariants as source
 use Rattle.evex.specs.declared.Instruction.{Instruction}
 use Rattle.evex.proofs.Bounds.{DestinationIn, bounds}
 use Rattle.lists.specs.Lists.{Each}
@@ -97,9 +96,9 @@ module _ (HiddenLane HiddenByte : ℕ → Type 0) where
       destination_equal t (Vector n) = either_equal no_halves t (λ _. registers_equal n)
       destination_equal t (Mask n) = refl
 
-      first_equal : (x : Source) → first_halves (on s i) s.vectors x ≡ first_halves (on s i) v x
-      first_equal source.None = refl
-      first_equal (source.Register n) = registers_equal n
+      first_equal : (x : Option ℕ) → first_halves (on s i) s.vectors x ≡ first_halves (on s i) v x
+      first_equal None = refl
+      first_equal (Some n) = registers_equal n
 
       second_equal : (x : Located) → ((j : ℕ) → on s i j ≡ true → Each (λ a. a < length memory₁ → ¬ HiddenByte a) (bytes_at x j))
           → second_halves (on s i) s.vectors memory₁ x ≡ second_halves (on s i) v memory₂ x

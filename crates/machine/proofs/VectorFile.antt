@@ -12,10 +12,9 @@ use borrow.Author.Tests.{lt-ltb, le-ltb}
 use lib.Dec.{ltb}
 use lib.ListN.{length, get_or}
 use lib.Seq.{length-paste}
+use Rattle.std.specs.Prelude.{Option, Some}
 use Rattle.lists.proofs.Tables.{get_or-table, paste_before, paste_inside, paste_after}
 use Rattle.evex.specs.declared.Destination.TheVariants.{Vector}
-use Rattle.evex.specs.declared.Source.{Source}
-use Rattle.evex.specs.declared.Source.TheVariants as source
 use Rattle.evex.specs.declared.Instruction.{Instruction}
 use Rattle.evex.proofs.Bounds.{DestinationIn, bounds}
 use Rattle.machine.specs.State.{State, Stepped, register_at, byte_at, byte_of_half}
@@ -40,7 +39,7 @@ from_eight scalar x j h = rw (le-ltb j 8 h, and-false scalar)
 own : (accumulates : Bool) (n m : ℕ) → accumulates ≡ true → cond accumulates n m ≡ n
 own accumulates n m e = rw e
 
-of_first : (accumulates : Bool) (n m : ℕ) (x : Source) → accumulates ≡ false → x ≡ source.Register m
+of_first : (accumulates : Bool) (n m : ℕ) (x : Option ℕ) → accumulates ≡ false → x ≡ Some m
     → cond accumulates n (register_or n x) ≡ m
 of_first accumulates n m x e f = rw (e, f)
 

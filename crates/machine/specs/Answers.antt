@@ -1,11 +1,10 @@
 -- docs/RULES.md, section 4: which answer is given, and what it leaves. The statements; their proofs are in proofs/Answers.antt.
-use Rattle.std.specs.Prelude.{ℕ, ◌+◌, ◌%◌, ◌^◌, ◌<◌, ◌≤◌, ◌≡◌, ◌↔◌, ◌≢◌, Bool, true, List, ◌∷◌, ◌++◌, take}
+use Rattle.std.specs.Prelude.{ℕ, ◌+◌, ◌%◌, ◌^◌, ◌<◌, ◌≤◌, ◌≡◌, ◌↔◌, ◌≢◌, Bool, true, List, ◌∷◌, ◌++◌, take, Ok}
 use Rattle.std.specs.Int.Bits.{bit_or}
 use Rattle.lists.specs.Lists.{NoneHolds}
 use Rattle.evex.specs.Decode.{decoded}
 use Rattle.evex.specs.Sizes.{longest, IsSize}
 use Rattle.evex.specs.declared.Instruction.{Instruction}
-use Rattle.evex.specs.declared.Decoded.TheVariants.{Fields}
 use Rattle.machine.specs.State.{State, Stepped}
 use Rattle.machine.specs.Step.{conditions, step}
 
@@ -55,7 +54,7 @@ Answers =
 abbrev pub BytesAfter : Type 0
 BytesAfter =
     (memory : List ℕ) (s : State) (code rest : List ℕ) (i : Instruction)
-    → decoded code ≡ Fields i → step memory s (take i.size code ++ rest) ≡ step memory s code
+    → decoded code ≡ Ok i → step memory s (take i.size code ++ rest) ≡ step memory s code
 
 -- R4.18: nor do bytes behind as many as the longest instruction has, whether the code is refused or not.
 abbrev pub FirstBytes : Type 0

@@ -1,5 +1,5 @@
 -- docs/RULES.md, sections 5 and 7: what a decoded instruction computes. Sources, lanes, flags, the destination's new bytes.
-use Rattle.std.specs.Prelude.{ℕ, ◌/◌, Bool, cond, not, ◌&&◌, List, eqb, ltb, get_or, set}
+use Rattle.std.specs.Prelude.{ℕ, ◌/◌, Bool, cond, not, ◌&&◌, List, eqb, ltb, get_or, set, Option, Some, None}
 use Rattle.std.specs.Int.Bits.{bit_and, bit_or}
 use Rattle.std.proofs.Math.Seq.{paste}
 use Rattle.half.specs.Round.{IE, DE, ZE}
@@ -16,8 +16,6 @@ use Rattle.evex.specs.declared.Rounding.{Rounding}
 use Rattle.evex.specs.declared.Rounding.TheVariants.{Control, Embedded, Suppressed}
 use Rattle.evex.specs.declared.Destination.{Destination}
 use Rattle.evex.specs.declared.Destination.TheVariants.{Vector, Mask}
-use Rattle.evex.specs.declared.Source.{Source}
-use Rattle.evex.specs.declared.Source.TheVariants as source
 use Rattle.evex.specs.declared.Instruction.{Instruction}
 use Rattle.machine.specs.State.{State, register_at, byte_at, lane_places, byte_of_half, unmasked_flags, control_mode}
 use Rattle.machine.specs.Memory.{word_from, word_bytes, on, second_at}
@@ -99,9 +97,9 @@ destination_halves on vectors accumulates (Vector n) = cond accumulates (registe
 destination_halves on vectors accumulates (Mask n) = no_halves
 
 -- R2.2, R5.3: the first source, or none
-abbrev pub first_halves : (ℕ → Bool) → List ℕ → Source → List ℕ
-first_halves on vectors source.None = no_halves
-first_halves on vectors (source.Register n) = register_halves on vectors n
+abbrev pub first_halves : (ℕ → Bool) → List ℕ → Option ℕ → List ℕ
+first_halves on vectors None = no_halves
+first_halves on vectors (Some n) = register_halves on vectors n
 
 -- R5.3: the second source, a register or memory
 abbrev pub second_halves : (ℕ → Bool) → List ℕ → List ℕ → Located → List ℕ
@@ -173,9 +171,9 @@ pub data Fill : Type 0 where
   zeroed : Fill
 
 -- R5.10: the first source's register, or n where there is none
-abbrev pub register_or : ℕ → Source → ℕ
-register_or n source.None = n
-register_or n (source.Register m) = m
+abbrev pub register_or : ℕ → Option ℕ → ℕ
+register_or n None = n
+register_or n (Some m) = m
 
 -- R5.10: where lanes 1 to 7 of a scalar instruction's destination n come from: the first source, which each has, or the destination itself
 -- where that is an operand

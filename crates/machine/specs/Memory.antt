@@ -1,10 +1,10 @@
 -- docs/RULES.md, R5.1 to R5.7: addresses, which lanes are on, and the memory bytes that are needed.
 use Rattle.std.specs.Prelude.{ℕ, ◌+◌, ◌-◌, ◌*◌, ◌%◌, ◌^◌, Bool, cond, ◌&&◌, ◌||◌, List, [], ◌∷◌, eqb, ltb, leb, ℤ, pos, negsuc, get_or}
+use Rattle.std.specs.Prelude.{Option, Some, None}
 use Rattle.evex.specs.Bits.{is_set}
 use Rattle.evex.specs.declared.Base.{Base}
 use Rattle.evex.specs.declared.Base.TheVariants as base
 use Rattle.evex.specs.declared.Index.{Index}
-use Rattle.evex.specs.declared.Index.TheVariants as index
 use Rattle.evex.specs.declared.Address.{Address}
 use Rattle.evex.specs.declared.Operand.{Operand}
 use Rattle.evex.specs.declared.Operand.TheVariants as operand
@@ -21,14 +21,14 @@ abbrev pub wrapped : ℤ → ℕ
 wrapped (pos n) = n % 2 ^ 64
 wrapped (negsuc n) = 2 ^ 64 - 1 - n % 2 ^ 64
 
-abbrev pub base_value : List ℕ → ℕ → Base → ℕ
-base_value general next base.None = 0
-base_value general next (base.General n) = get_or general n 0
-base_value general next base.NextInstruction = next
+abbrev pub base_value : List ℕ → ℕ → Option Base → ℕ
+base_value general next None = 0
+base_value general next (Some (base.General n)) = get_or general n 0
+base_value general next (Some base.NextInstruction) = next
 
-abbrev pub index_value : List ℕ → Index → ℕ
-index_value general index.None = 0
-index_value general (index.Scaled n scale) = get_or general n 0 * 2 ^ scale
+abbrev pub index_value : List ℕ → Option Index → ℕ
+index_value general None = 0
+index_value general (Some i) = get_or general i.number 0 * 2 ^ i.scale
 
 unfoldable pub address_from : List ℕ → ℕ → Address → ℕ
 address_from general next a = (base_value general next a.base + index_value general a.index + wrapped a.displacement) % 2 ^ 64

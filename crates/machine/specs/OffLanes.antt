@@ -1,11 +1,10 @@
 -- docs/RULES.md, R5.2: lanes that are off take no part in what is computed. The conditions of 7 and 8 and the flags, spelt out; and which
 -- lanes a scalar instruction switches on (R5.1). Their proofs are in proofs/OffLanes.antt; that nothing open depends on such a lane is a
 -- case of TwoRuns.antt, where it is hidden.
-use Rattle.std.specs.Prelude.{ℕ, ◌≤◌, ◌≡◌, ◌↔◌, ◌≢◌, true, List}
+use Rattle.std.specs.Prelude.{ℕ, ◌≤◌, ◌≡◌, ◌↔◌, ◌≢◌, true, List, Ok}
 use Rattle.std.specs.Int.Bits.{bit_and}
 use Rattle.evex.specs.Decode.{decoded}
 use Rattle.evex.specs.declared.Instruction.{Instruction}
-use Rattle.evex.specs.declared.Decoded.TheVariants.{Fields}
 use Rattle.machine.specs.State.{State}
 use Rattle.machine.specs.Memory.{needs_outside}
 use Rattle.machine.specs.Lanes.{Sources, unmasked, lane_of, raised, raises_unmasked}
@@ -31,8 +30,8 @@ module _ (s : State) (i : Instruction) where
 -- R3.7, R5.1: a scalar instruction switches on lane 0 or none.
 abbrev pub ScalarLanes : Type 0
 ScalarLanes =
-    (s : State) (code : List ℕ) (i : Instruction) → decoded code ≡ Fields i → i.shape.scalar ≡ true → (j : ℕ) → SwitchesOn s i j → j ≡ 0
+    (s : State) (code : List ℕ) (i : Instruction) → decoded code ≡ Ok i → i.shape.scalar ≡ true → (j : ℕ) → SwitchesOn s i j → j ≡ 0
 
 -- R5.2: of every instruction.
 abbrev pub OffLanes : Type 0
-OffLanes = (s : State) (code : List ℕ) (i : Instruction) → decoded code ≡ Fields i → Faults s i × Raises s i × Flags s i
+OffLanes = (s : State) (code : List ℕ) (i : Instruction) → decoded code ≡ Ok i → Faults s i × Raises s i × Flags s i

@@ -1,10 +1,9 @@
 -- docs/RULES.md, section 4: the answer, what it leaves, a step; R11.4: a run.
-use Rattle.std.specs.Prelude.{ℕ, ◌^◌, Bool, false, cond, not, List, [], ◌∷◌, ◌++◌, map, eqb, leb, length}
+use Rattle.std.specs.Prelude.{ℕ, ◌^◌, Bool, false, cond, not, List, [], ◌∷◌, ◌++◌, map, eqb, leb, length, Result, Ok, Err}
 use Rattle.lists.specs.Lists.{first_of}
 use Rattle.evex.specs.Decode.{number_of, refusals, decoded}
 use Rattle.evex.specs.declared.Instruction.{Instruction}
-use Rattle.evex.specs.declared.Decoded.{Decoded}
-use Rattle.evex.specs.declared.Decoded.TheVariants.{Fields, Refused}
+use Rattle.evex.specs.declared.Refusal.{Refusal}
 use Rattle.machine.specs.State.{State, Stepped}
 use Rattle.machine.specs.Memory.{next_pointer, needs_outside}
 use Rattle.machine.specs.Lanes.{gathered, results, raises_unmasked, control_after, vectors_after, masks_after}
@@ -12,9 +11,9 @@ use Rattle.machine.specs.Lanes.{gathered, results, raises_unmasked, control_afte
 -- ---- R4.2: the order of the answers
 
 -- by the instruction, where there is one
-abbrev pub of_fields : {A : Type 0} → Decoded → A → (Instruction → A) → A
-of_fields (Fields i) otherwise f = f i
-of_fields (Refused r) otherwise f = otherwise
+abbrev pub of_fields : {A : Type 0} → Result Instruction Refusal → A → (Instruction → A) → A
+of_fields (Ok i) otherwise f = f i
+of_fields (Err r) otherwise f = otherwise
 
 -- R4.3: the size of the vector file (R1.2)
 abbrev pub wrong_file_size : List ℕ → Bool
@@ -28,11 +27,11 @@ unfoldable pub high_control_bit : State → Bool
 high_control_bit s = leb (2 ^ 16) s.control
 
 -- R4.13: a byte that is needed lies outside memory (R5.7)
-unfoldable pub outside_memory : List ℕ → State → Decoded → Bool
+unfoldable pub outside_memory : List ℕ → State → Result Instruction Refusal → Bool
 outside_memory memory s d = of_fields d false (λ (i : Instruction). needs_outside s i (length memory))
 
 -- R4.14: an unmasked exception is raised (R7.3)
-unfoldable pub unmasked_exception : List ℕ → State → Decoded → Bool
+unfoldable pub unmasked_exception : List ℕ → State → Result Instruction Refusal → Bool
 unmasked_exception memory s d = of_fields d false (λ (i : Instruction). raises_unmasked s i (gathered memory s i))
 
 -- R11.5: the conditions before 7, with their numbers: R4.3, R4.4, then those of the bytes

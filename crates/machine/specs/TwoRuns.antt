@@ -1,10 +1,9 @@
 -- docs/RULES.md, section 11: two runs, the statement. Its proof is in proofs/TwoRuns.antt.
-use Rattle.std.specs.Prelude.{ℕ, ◌<◌, ◌/◌, ◌%◌, ◌≡◌, true, length, get_or}
+use Rattle.std.specs.Prelude.{ℕ, ◌<◌, ◌/◌, ◌%◌, ◌≡◌, true, length, get_or, Ok}
 use mathlib.Core.List.{List, [], ◌∷◌, Memᴰ}
 use Rattle.lists.specs.Lists.{NoneHolds}
 use Rattle.evex.specs.Decode.{decoded}
 use Rattle.evex.specs.declared.Instruction.{Instruction}
-use Rattle.evex.specs.declared.Decoded.TheVariants.{Fields}
 use Rattle.machine.specs.State.{State, Stepped}
 use Rattle.machine.specs.Memory.{on, bytes_read}
 use Rattle.machine.specs.Step.{before_seven, step, run}
@@ -28,7 +27,7 @@ pub record Alike (HiddenLane : ℕ → Type 0) (s₁ s₂ : State) : Type 0 wher
 
 -- R11.5: the code is decoded, to this instruction
 abbrev pub IsDecoded : State → List ℕ → Instruction → Type 0
-IsDecoded s code i = NoneHolds (before_seven s code) × (decoded code ≡ Fields i)
+IsDecoded s code i = NoneHolds (before_seven s code) × (decoded code ≡ Ok i)
 
 -- R5.1, R11.5: it switches on lane j
 abbrev pub SwitchesOn : State → Instruction → ℕ → Type 0

@@ -1,8 +1,7 @@
 -- docs/RULES.md, R5.9 and R5.10: the vector file after a step that is done, byte by byte. The statement; its proof is in
 -- proofs/VectorFile.antt. With any other answer the file is unchanged (Answers.antt, `Leaves`).
-use Rattle.std.specs.Prelude.{ℕ, ◌/◌, ◌<◌, ◌≤◌, ◌≡◌, ◌≢◌, true, false, cond, List, length}
+use Rattle.std.specs.Prelude.{ℕ, ◌/◌, ◌<◌, ◌≤◌, ◌≡◌, ◌≢◌, true, false, cond, List, length, Some}
 use Rattle.evex.specs.declared.Destination.TheVariants.{Vector}
-use Rattle.evex.specs.declared.Source.TheVariants as source
 use Rattle.evex.specs.declared.Instruction.{Instruction}
 use Rattle.machine.specs.State.{State, byte_at, byte_of_half}
 use Rattle.machine.specs.Lanes.{gathered, lane_of}
@@ -21,7 +20,7 @@ pub record FileAfter (memory : List ℕ) (s : State) (i : Instruction) (d : ℕ)
   pub off : (q : ℕ) → q < 64 → q / 2 < i.elements → ¬ SwitchesOn s i (q / 2)
       → byte_at after d q ≡ cond i.zeroing 0 (byte_at s.vectors d q)
   -- R5.10: lanes 1 to 7 of a scalar instruction, without and with the destination as an operand
-  pub taken : i.shape.scalar ≡ true → i.shape.accumulates ≡ false → (n : ℕ) → i.first ≡ source.Register n
+  pub taken : i.shape.scalar ≡ true → i.shape.accumulates ≡ false → (n : ℕ) → i.first ≡ Some n
       → (q : ℕ) → 2 ≤ q → q < 16 → byte_at after d q ≡ byte_at s.vectors n q
   pub stays : i.shape.scalar ≡ true → i.shape.accumulates ≡ true
       → (q : ℕ) → 2 ≤ q → q < 16 → byte_at after d q ≡ byte_at s.vectors d q

@@ -9,6 +9,7 @@ use borrow.Author.Tests.{leb-false}
 use lib.Bits.{or_lt}
 use lib.ListN.{length, take, drop, length-append, length-drop}
 use lib.Seq.{take_at, drop_at, drop-drop, length-paste}
+use Rattle.std.specs.Prelude.{Result, Ok, Err}
 use Rattle.lists.specs.Lists.{table}
 use Rattle.lists.proofs.Tests.{either, equal}
 use Rattle.evex.specs.Decode.{decoded}
@@ -17,8 +18,7 @@ use Rattle.evex.specs.declared.Destination.TheVariants.{Vector, Mask}
 use Rattle.evex.specs.declared.Rounding.{Rounding}
 use Rattle.evex.specs.declared.Rounding.TheVariants.{Control, Embedded, Suppressed}
 use Rattle.evex.specs.declared.Instruction.{Instruction}
-use Rattle.evex.specs.declared.Decoded.{Decoded}
-use Rattle.evex.specs.declared.Decoded.TheVariants.{Fields, Refused}
+use Rattle.evex.specs.declared.Refusal.{Refusal}
 use Rattle.evex.proofs.Bounds.{DestinationIn, bounds}
 use Rattle.machine.specs.State.{State, Stepped, register_at}
 use Rattle.machine.specs.Lanes as lanes
@@ -110,9 +110,10 @@ unfolding shown table
 shown_long code n vectors masks long =
     either (λ (l : List ℕ). length l ≡ 64) (has_destination n) (go (decoded code) refl) refl
   where
-    go : (d : Decoded) → decoded code ≡ d → length (of_fields d (zeros 64) (λ (i : Instruction). held vectors masks i.destination)) ≡ 64
-    go (Fields i) e = held_long vectors masks i.destination long (bounds code e).destination
-    go (Refused r) e = refl
+    go : (d : Result Instruction Refusal) → decoded code ≡ d
+        → length (of_fields d (zeros 64) (λ (i : Instruction). held vectors masks i.destination)) ≡ 64
+    go (Ok i) e = held_long vectors masks i.destination long (bounds code e).destination
+    go (Err r) e = refl
 
 -- ---- an item in front of others
 

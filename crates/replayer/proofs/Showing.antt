@@ -4,10 +4,10 @@ use Prim.Native.Nat.{ℕ}
 use mathlib.Core.Path.{◌≡◌}
 use mathlib.Core.Bool.{true, false}
 use mathlib.Core.List.{List}
+use Rattle.std.specs.Prelude.{Ok, Err}
 use Rattle.evex.specs.Decode.{decoded}
 use Rattle.evex.specs.declared.Instruction.{Instruction}
 use Rattle.evex.specs.declared.Refusal.{Refusal}
-use Rattle.evex.specs.declared.Decoded.TheVariants.{Fields, Refused}
 use Rattle.forms.specs.File.{zeros}
 use Rattle.recording.specs.Replay.{held, has_destination, shown}
 
@@ -17,11 +17,11 @@ module _ (code : List ℕ) (number : ℕ) (vectors masks : List ℕ) where
   shows_nothing e = rw e
 
   module _ (e : has_destination number ≡ true) where
-    pub shows_refused : {r : Refusal} → decoded code ≡ Refused r → zeros 64 ≡ shown code number vectors masks
+    pub shows_refused : {r : Refusal} → decoded code ≡ Err r → zeros 64 ≡ shown code number vectors masks
     unfolding shown
     shows_refused f = rw (e, f)
 
-    pub shows : {i : Instruction} → decoded code ≡ Fields i → {l : List ℕ} → l ≡ held vectors masks i.destination
+    pub shows : {i : Instruction} → decoded code ≡ Ok i → {l : List ℕ} → l ≡ held vectors masks i.destination
         → l ≡ shown code number vectors masks
     unfolding shown
     shows f g = rw (e, f) g

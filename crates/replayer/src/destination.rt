@@ -5,7 +5,7 @@ ghost use Rattle.forms.specs.Numbers.{big};
 ghost use Rattle.forms.specs.File.{register, zeros};
 ghost use Rattle.recording.specs.Replay.{held, has_destination, shown, same_bytes};
 
-use evex::{Decoded, Destination};
+use evex::Destination;
 
 fn register_bytes(vectors: &[u8], n: usize) -> [u8; 64]
     requires { (length vectors.now ≡ 2048) × (n < 32) }
@@ -51,7 +51,7 @@ pub fn shown_bytes(code: &[u8], number: u32, vectors: &[u8], masks: &[u64; 8]) -
         return [0u8; 64];
     }
     let decoded = evex::decode(code);
-    let Decoded::Fields(i) = decoded else {
+    let Ok(i) = decoded else {
         return [0u8; 64];
     };
     let destination = i.destination;

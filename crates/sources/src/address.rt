@@ -22,24 +22,24 @@ fn wrapped(d: i32) -> u64
     }
 }
 
-fn base_value(base: Base, general: &[u64; 16], next: u64) -> u64
+fn base_value(base: Option<Base>, general: &[u64; 16], next: u64) -> u64
     requires { BaseIn base }
     ensures { result ≡ base_value general.now next base }
 {
     match base {
-        Base::None => 0,
-        Base::General(n) => general[n],
-        Base::NextInstruction => next,
+        None => 0,
+        Some(Base::General(n)) => general[n],
+        Some(Base::NextInstruction) => next,
     }
 }
 
-fn index_value(index: Index, general: &[u64; 16]) -> u64
+fn index_value(index: Option<Index>, general: &[u64; 16]) -> u64
     requires { IndexIn index }
     ensures { result ≡ index_value general.now index % 2 ^ 64 }
 {
     match index {
-        Index::None => 0,
-        Index::Scaled { number, scale } => general[number] << scale,
+        None => 0,
+        Some(Index { number, scale }) => general[number] << scale,
     }
 }
 

@@ -12,7 +12,7 @@ ghost use Rattle.machine.specs.declared.Located.TheVariants.{Words};
 ghost use Rattle.sources.specs.Work.{LocatedIn, every_lane, second_gathered};
 
 use address::word_from;
-use evex::{Destination, Source};
+use evex::Destination;
 use machine::Located;
 use mask::{end_of, has};
 
@@ -80,13 +80,13 @@ pub fn destination_halves(vectors: &[u8], accumulates: bool, destination: Destin
     [0u16; 32]
 }
 
-pub fn first_halves(vectors: &[u8], first: Source) -> [u16; 32]
+pub fn first_halves(vectors: &[u8], first: Option<usize>) -> [u16; 32]
     requires { (length vectors.now ≡ 2048) × SourceIn first }
     ensures { result ≡ first_halves every_lane vectors.now first }
 {
     match first {
-        Source::None => [0u16; 32],
-        Source::Register(n) => register_halves(vectors, n),
+        None => [0u16; 32],
+        Some(n) => register_halves(vectors, n),
     }
 }
 

@@ -1,5 +1,6 @@
 -- What the parts of a step compute is what the machine defines.
 -- Assumes nothing.
+use Rattle.std.specs.Prelude.{Ok, Option, Some, None}
 use Rattle.std.proofs.Common.{◌≡◌, ℕ, ◌/◌, ◌%◌, ◌^◌, ◌<◌, Bool, true, false, cond, not, ◌&&◌, ltb, List, [], ◌∷◌, length, get_or, set, sym, refl, ap, ◌∙◌, true≢false, arith, ltb-false}
 use mathlib.Core.Bool.{false≢true}
 use native.Mathlib.Nat.{zero-div}
@@ -8,10 +9,7 @@ use Rattle.evex.specs.declared.Operation.{Operation}
 use Rattle.evex.specs.declared.Operation.TheVariants.{Compare}
 use Rattle.evex.specs.declared.Destination.{Destination}
 use Rattle.evex.specs.declared.Destination.TheVariants.{Vector, Mask}
-use Rattle.evex.specs.declared.Source.{Source}
-use Rattle.evex.specs.declared.Source.TheVariants as source
 use Rattle.evex.specs.declared.Instruction.{Instruction}
-use Rattle.evex.specs.declared.Decoded.TheVariants.{Fields}
 use Rattle.evex.specs.Decode.{decoded}
 use Rattle.evex.proofs.Bounds.{Bounds}
 use Rattle.lists.specs.Lists.{or_all, binary}
@@ -53,9 +51,9 @@ module _ (p : ℕ → Bool) where
   destination_agrees vectors false (Vector n) = λ j h t. refl
   destination_agrees vectors t (Mask n) = λ j h t. refl
 
-  first_agrees : (vectors : List ℕ) (x : Source) → AgreeOn (first_halves every_lane vectors x) (first_halves p vectors x)
-  first_agrees vectors source.None = λ j h t. refl
-  first_agrees vectors (source.Register n) = register_agrees vectors n
+  first_agrees : (vectors : List ℕ) (x : Option ℕ) → AgreeOn (first_halves every_lane vectors x) (first_halves p vectors x)
+  first_agrees vectors None = λ j h t. refl
+  first_agrees vectors (Some n) = register_agrees vectors n
 
   second_agrees : (vectors memory : List ℕ) (x : Located) → AgreeOn (second_gathered p vectors memory x) (second_halves p vectors memory x)
   second_agrees vectors memory (place.Register n) = register_agrees vectors n
@@ -236,7 +234,7 @@ module _ (memory : List ℕ) (s : State) (i : Instruction) (p : ℕ → Bool) (e
 -- ---- a step of a decoded instruction
 
 module _ (memory : List ℕ) (s : State) (code : List ℕ) (size : length s.vectors ≡ 2048) (control : s.control < 2 ^ 16)
-    {i : Instruction} (fields : decoded code ≡ Fields i) where
+    {i : Instruction} (fields : decoded code ≡ Ok i) where
   pub executes : executed memory s i ≡ step memory s code
   unfolding executed
   executes = go (needs_outside s i (length memory)) refl (raises_unmasked s i (gathered memory s i)) refl

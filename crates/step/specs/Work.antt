@@ -1,10 +1,9 @@
 -- What an instruction leaves, over what its parts give. No clause: used by the code, nothing to believe. The laws of proofs/Meaning.antt tie
 -- it to the machine's definitions.
-use Rattle.std.specs.Prelude.{ℕ, Bool, cond, List, length}
+use Rattle.std.specs.Prelude.{ℕ, Bool, cond, List, length, Result, Ok, Err}
 use Rattle.evex.specs.Decode.{number_of}
 use Rattle.evex.specs.declared.Instruction.{Instruction}
-use Rattle.evex.specs.declared.Decoded.{Decoded}
-use Rattle.evex.specs.declared.Decoded.TheVariants.{Fields, Refused}
+use Rattle.evex.specs.declared.Refusal.{Refusal}
 use Rattle.machine.specs.declared.Answer.{Answer}
 use Rattle.machine.specs.State.{State, Stepped}
 use Rattle.machine.specs.Memory.{needs_outside}
@@ -46,6 +45,6 @@ executed memory s i =
     (completed memory s i))
 
 -- the number of a refusal
-abbrev pub refusal_number : Decoded → ℕ
-refusal_number (Fields i) = 0
-refusal_number (Refused r) = number_of r
+abbrev pub refusal_number : Result Instruction Refusal → ℕ
+refusal_number (Ok i) = 0
+refusal_number (Err r) = number_of r

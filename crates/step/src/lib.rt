@@ -8,7 +8,7 @@ ghost use Rattle.machine.specs.Step.{step};
 ghost use Rattle.machine.specs.State.{state_of, stepped_of};
 ghost use Rattle.step.specs.Work.{left_of, finished, executed, refusal_number};
 
-use evex::{Decoded, Instruction};
+use evex::{Instruction, Refusal};
 use lanes::control::Control;
 use lanes::{Results, all_lanes};
 use machine::Answer;
@@ -24,12 +24,12 @@ fn ended(number: u32) -> Answer
     Answer { number, length: 0 }
 }
 
-fn refusal_number(d: Decoded) -> u32
+fn refusal_number(d: Result<Instruction, Refusal>) -> u32
     ensures { result ≡ refusal_number d }
 {
     match d {
-        Decoded::Fields(_) => 0,
-        Decoded::Refused(r) => r.number(),
+        Ok(_) => 0,
+        Err(r) => r.number(),
     }
 }
 
@@ -124,7 +124,7 @@ pub fn step(
         return ended(2);
     }
     let decoded = evex::decode(code);
-    let Decoded::Fields(i) = decoded else {
+    let Ok(i) = decoded else {
         return ended(refusal_number(decoded));
     };
     execute(vectors, masks, general, control, pointer, memory, i)

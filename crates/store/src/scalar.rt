@@ -8,7 +8,7 @@ ghost use Rattle.machine.specs.Lanes.{upper_from, vectors_with};
 ghost use Rattle.store.specs.Work.{scalar_or};
 
 use super::{high_byte, low_byte};
-use evex::{Instruction, Source};
+use evex::Instruction;
 use sources::mask::has;
 
 // R5.10: the first source, or the destination n where that is an operand.
@@ -20,11 +20,7 @@ pub(crate) fn upper_from(i: Instruction, n: usize) -> usize
     if shape.accumulates {
         return n;
     }
-    let first = i.first;
-    match first {
-        Source::None => n,
-        Source::Register(m) => m,
-    }
+    i.first.unwrap_or(n)
 }
 
 // A register's bytes up to lane 7, and 0 above.

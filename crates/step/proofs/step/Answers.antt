@@ -33,7 +33,7 @@ pub execute-requires : goal.execute-requires
 execute-requires c = (
   c.if-vectors-ne2048.false,
   bounds c.args.code.now
-      (sym c.decode-decoded.ensures ∙ c.in-Fields.is),
+      (sym c.decode-decoded.ensures ∙ c.in-Ok.is),
 )
 
 pub returns : goal.returns
@@ -41,5 +41,5 @@ returns c =
     rw
     (← executes c.args.memory.now (state (goal.at.returns c).Start) c.args.code.now c.if-vectors-ne2048.false
     c.if-control-ge65536.false
-    (sym c.decode-decoded.ensures ∙ c.in-Fields.is))
+    (sym c.decode-decoded.ensures ∙ c.in-Ok.is))
     c.execute.ensures

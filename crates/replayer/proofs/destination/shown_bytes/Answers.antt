@@ -23,11 +23,11 @@ returns-in_default c =
 pub held_bytes-requires : goal.held_bytes-requires
 held_bytes-requires c =
     let decode = c.decode-decoded in
-    (c.requires, (bounds c.args.code.now (sym decode.ensures ∙ c.in-Fields.is)).destination)
+    (c.requires, (bounds c.args.code.now (sym decode.ensures ∙ c.in-Ok.is)).destination)
 
 pub returns : goal.returns
 returns c =
     let has_destination = c.has_destination in
     let if1 = c.if-not-has_destination in
     let decode = c.decode-decoded in
-    shows c.args.code.now c.args.number c.args.vectors.now c.args.masks.now (sym has_destination.ensures ∙ if1.false) (sym decode.ensures ∙ c.in-Fields.is) c.held_bytes.ensures
+    shows c.args.code.now c.args.number c.args.vectors.now c.args.masks.now (sym has_destination.ensures ∙ if1.false) (sym decode.ensures ∙ c.in-Ok.is) c.held_bytes.ensures
