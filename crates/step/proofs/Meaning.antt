@@ -17,9 +17,10 @@ use Rattle.lists.proofs.Tables.{table_equal, get_or-table}
 use Rattle.machine.specs.declared.Located.{Located}
 use Rattle.machine.specs.declared.Located.TheVariants as place
 use Rattle.machine.specs.declared.Environment.{Environment}
-use Rattle.machine.specs.State.{State, Stepped, register_at, stepped_of}
+use Rattle.machine.specs.declared.Answer.{Answer}
+use Rattle.machine.specs.State.{State, Stepped, register_at, state_of, stepped_of}
 use Rattle.machine.specs.Memory.{is_on, on, next_pointer, located, outside, second_at, needs_outside}
-use Rattle.machine.specs.Lanes.{Sources, raises, environment_of, recorded, added, register_halves, destination_halves, first_halves}
+use Rattle.machine.specs.Lanes.{Sources, environment_of, register_halves, destination_halves, first_halves}
 use Rattle.machine.specs.Lanes.{second_halves, gathered, lane_of, results, raised, raises_unmasked, control_after, Fill, computed}
 use Rattle.machine.specs.Lanes.{copied, zeroed, upper_from, fill, filled, new_register, vectors_with, vectors_after, masks_after}
 use Rattle.machine.specs.Step.{refused, stopped, completed, step}
@@ -32,7 +33,7 @@ use Rattle.lanes.specs.Work.{results_by, results_where}
 use Rattle.lanes.proofs.AtOnce.{results_alike}
 use Rattle.store.specs.Work.{kept_by, kept_or, scalar_or, stored_by, halves_of, vectors_stored}
 use Rattle.store.specs.Work.{lowest_bits, masks_stored}
-use Rattle.step.specs.Work.{Left, left_of, finished, executed}
+use Rattle.step.specs.Work.{stepped, finished, executed}
 use Rattle.store.proofs.Upper.{lane_half, one_lane, first_alone}
 
 -- ---- sources: what a lane that is off has does not count
@@ -165,14 +166,6 @@ module _ (s : State) (i : Instruction) (g : Sources) where
 
 -- ---- the whole, from what the parts give
 
--- with what an instruction does not write
-abbrev joined : State → Left → Stepped
-joined s l = stepped_of l.answer l.vectors l.masks s.general l.control l.pointer
-
-joined_either : (s : State) (t : Bool) (x y : Left) → joined s (cond t x y) ≡ cond t (joined s x) (joined s y)
-joined_either s true x y = refl
-joined_either s false x y = refl
-
 module _ (memory : List ℕ) (s : State) (i : Instruction) (p : ℕ → Bool) (e : p ≡ is_on s.masks i.mask i.elements)
     (next : ℕ) (n : next ≡ next_pointer s i) (second : Located) (at : second ≡ located s.general next i.second) where
   lanes_are : p ≡ on s i
@@ -210,12 +203,10 @@ module _ (memory : List ℕ) (s : State) (i : Instruction) (p : ℕ → Bool) (e
         (second_agrees (on s i) s.vectors memory (second_at s i))
         ∙ results_are s i (gathered memory s i))
 
-    pub finishes : Bounds i → {l : Left} → l ≡ finished p i r next s.vectors s.masks s.control s.pointer
-        → joined s l ≡ executed memory s i
+    pub finishes : Bounds i → {o : Stepped} → o ≡ finished p i r next s → o ≡ executed memory s i
     unfolding executed finished raises_unmasked stopped completed control_after
     finishes b left =
         let g = gathered memory s i in
-        let control = recorded i.rounding s.control (added i.rounding s.control (raised s i g)) in
         rw (
           left,
           ← outside_is,
@@ -226,10 +217,7 @@ module _ (memory : List ℕ) (s : State) (i : Instruction) (p : ℕ → Bool) (e
           masks_are s i g i.destination b.compared,
           n,
         )
-        (joined_either s (raises i.rounding s.control (raised s i g))
-        (left_of (record { number = 8; length = 0 }) s.vectors s.masks control s.pointer)
-        (left_of (record { number = 0; length = i.size }) (vectors_after s i (results s i g) i.destination)
-        (masks_after s.masks (results s i g) i.destination) control (next_pointer s i)))
+        refl
 
 -- ---- a step of a decoded instruction
 
@@ -244,3 +232,13 @@ module _ (memory : List ℕ) (s : State) (code : List ℕ) (size : length s.vect
       go true o u x = sym (refuses_memory memory s code size control fields o)
       go false o true x = sym (stops memory s code size control fields o x)
       go false o false x = sym (completes memory s code size control fields o x)
+
+-- ---- a step of the parts, where those of a state begin and end as they do
+
+pub by_parts : {s t : State} {a : Answer} (memory code : List ℕ) {v w m n g h : List ℕ} {c d p q : ℕ}
+    → stepped a t ≡ step memory s code
+    → (v ≡ s.vectors) × (m ≡ s.masks) × (g ≡ s.general) × (c ≡ s.control) × (p ≡ s.pointer)
+    → (w ≡ t.vectors) × (n ≡ t.masks) × (h ≡ t.general) × (d ≡ t.control) × (q ≡ t.pointer)
+    → stepped_of a w n h d q ≡ step memory (state_of v m g c p) code
+by_parts memory code e starts ends =
+    rw (starts.0, starts.1, starts.2, starts.3, starts.4, ends.0, ends.1, ends.2, ends.3, ends.4) e
