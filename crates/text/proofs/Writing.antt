@@ -6,8 +6,8 @@ use mathlib.Core.List.{List, [], ◌∷◌, ◌++◌, append_assoc, append-nil}
 use native.Mathlib.Omega.{arith}
 use native.Mathlib.Nat.{add-zero, add_assoc}
 use native.Mathlib.Numerals.{add-one}
-use lib.ListN.{length, take, drop, set, get_or, take-append-drop, length-append}
-use lib.Seq.{take_at, drop_at, drop-drop, take-suc, set_split, append_snoc, length-take-le}
+use lib.ListN.{length, take, drop, set, take-append-drop, length-append}
+use lib.Seq.{take_at, drop_at, drop-drop, set_split, append_snoc, length-take-le}
 use Rattle.text.specs.Put.{Put}
 use Rattle.text.specs.Text.{Wrote}
 
@@ -33,14 +33,6 @@ followed {t} {a} {n} {m} {b} {u} {k} {c} h w v =
           v.buffer ∙ ap₂ (λ (x y : List ℕ). x ++ u ++ y) front rest ∙ ap (λ (x : List ℕ). x ++ drop (n + length (t ++ u)) a)
           (append_assoc (take n a) t u);
     }
-
-pub take_next : (l : List ℕ) (k : ℕ) → k < length l → take (k + 1) l ≡ take k l ++ (get_or l k 0 ∷ [])
-take_next l k h = rw add-one (take-suc l k 0 h)
-
--- a turn of a loop that puts byte after byte
-pub turn : {t a : List ℕ} {n : ℕ} {b : List ℕ} (k v : ℕ) → length b ≡ length a → n + k < length a → Put t a n (n + k) b
-    → Put (t ++ (v ∷ [])) a n (n + (k + 1)) (set b (n + k) v)
-turn {t} {a} {n} {b} k v e h w = rw (← add_assoc n k 1) (followed (omega arith) w (one b (n + k) v (omega arith)))
 
 -- from the start of the buffer on
 pub wrote : {t a : List ℕ} {n : ℕ} {b : List ℕ} → n ≤ length b → Put t a 0 n b → Wrote t a n b

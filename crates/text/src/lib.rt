@@ -9,12 +9,9 @@ pub fn put_text(out: &mut [u8], at: usize, text: &[u8]) -> usize
     requires { at + length text.now ≤ length out.old }
     ensures { Put text.now out.old at result out.new }
 {
-    let mut k = 0;
-    while k < text.len() {
-        out[at + k] = text[k];
-        k += 1;
-    }
-    at + k
+    let next = at + text.len();
+    out[at..next].copy_from_slice(text);
+    next
 }
 
 pub fn put_decimal(out: &mut [u8], at: usize, x: u64) -> usize
@@ -41,10 +38,9 @@ pub fn put_hex(out: &mut [u8], at: usize, x: u32) -> usize
     requires { at + 8 ≤ length out.old }
     ensures { Put (hex8 x) out.old at result out.new }
 {
-    let mut k = 0;
-    while k < 8 {
-        out[at + k] = hex_digit((x >> (28 - 4 * k)) % 16);
-        k += 1;
+    let next = at + 8;
+    for (k, digit) in out[at..next].iter_mut().enumerate() {
+        *digit = hex_digit((x >> (28 - 4 * k)) % 16);
     }
-    at + k
+    next
 }

@@ -1,35 +1,22 @@
--- `text::put_hex` meets its contract: after k turns the first k digits are put. The measure is what is left of the eight.
--- Assumes nothing.
-use Prim.Native.Nat.{ℕ, ◌-◌, ◌<◌, ◌/◌, ◌%◌, ◌^◌}
-use mathlib.Core.Path.{◌≡◌, refl}
-use native.Mathlib.Nat.{add-zero}
+-- `text::put_hex` meets its contract: after k turns the first k digits are put. Assumes nothing.
+use Prim.Native.Nat.{◌+◌, ◌-◌, ◌<◌}
+use mathlib.Core.Path.{◌≡◌}
+use mathlib.Core.List.{append_assoc}
 use native.Mathlib.Omega.{arith}
-use lib.ListN.{length-set}
-use Rattle.lists.specs.Lists.{table}
-use Rattle.lists.proofs.Tables.{table_next}
-use Rattle.text.specs.Text.{hex_digit, hex8}
-use Rattle.text.proofs.Digits.{hex_shift}
-use Rattle.text.proofs.Writing.{none, turn}
+use lib.Seq.{drop-drop}
+use Rattle.text.specs.Text.{hex8}
+use Rattle.lists.proofs.Filling.{more, full}
+use Rattle.text.proofs.Digits.{hex_shift, hex_eight}
 use Rattle.text.proofs.put_hex.Goals as goal
-
-pub loop-k-init : goal.loop-k-init
-unfolding table
-loop-k-init c = (omega arith, refl, rw add-zero (none c.args.out.now c.args.at))
 
 pub loop-k-preserved : goal.loop-k-preserved
 loop-k-preserved c =
-    let k : ℕ = c.loop-k.k in
-    let h : k < 8 = c.loop-k-test.true in
-    let e : c.hex_digit.result ≡ hex_digit (c.args.x / 16 ^ (7 - k) % 16) =
-    rw (← hex_shift k h) c.hex_digit.ensures in (
-      omega arith,
-      simp length-set c.loop-k.invariant.1,
-      rw (table_next k, ← e) (turn k c.hex_digit.result c.loop-k.invariant.1 (omega arith)
-          c.loop-k.invariant.2),
-    )
+    let h : c.loop-k.k < 8 = omega (arith, c.loop-k.invariant.size) in
+    more c.loop-k.invariant h (rw (← hex_shift c.loop-k.k h) c.hex_digit.ensures)
 
 pub returns : goal.returns
 unfolding hex8
 returns c =
-    let e : c.loop-k.k ≡ 8 = omega arith in
-    rw (← e) c.loop-k.invariant.2
+    let e : c.loop-k.digit-items ≡ hex8 c.args.x = full c.loop-k.invariant (omega (arith, c.loop-k.invariant.size)) in
+    let n : (c.args.at + 8) - c.args.at ≡ 8 = omega arith in
+    rw (e, n) (record { place = rw (hex_eight c.args.x); buffer = rw (hex_eight c.args.x, drop-drop, append_assoc) })
