@@ -119,9 +119,6 @@ module _ (a : ℕ) (f : (is_finite a && (not (negative a) && not (is_zero a))) �
   not_zero : is_zero a ≡ false
   not_zero = not-true (is_zero a) (and_right (not (negative a)) (not (is_zero a)) above_zero)
 
-  pub root_finite : (is_finite a ≡ true) × (is_zero a ≡ false)
-  root_finite = (radicand_finite, not_zero)
-
   pub finite_root : (mode : Mode) (unmasked_ue : Bool)
       → half_root mode unmasked_ue a ≡ with_denormals (a ∷ a ∷ a ∷ []) (rounded_half mode unmasked_ue false (root_of (units a) (2 ^ 24)))
   unfolding half_root

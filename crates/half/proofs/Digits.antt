@@ -210,9 +210,6 @@ module _ (m e : ℕ) (fits : m < 2 ^ 64) {v : ℕ} (hv : v ≡ count_leading_zer
     size_pos : 1 ≤ size m
     size_pos = size_large m 0 (pos_of_ne-zero (eqb-false m 0 (not-true (eqb m 0) (and_left (not (eqb m 0)) (leb v (e + 20)) held))))
 
-    pub zeros_lt : v < 64
-    zeros_lt = omega (arith, zeros, size_pos)
-
     pub zeros_le : v ≤ e + 20
     zeros_le = leb-true v (e + 20) (and_right (not (eqb m 0)) (leb v (e + 20)) held)
 

@@ -16,6 +16,5 @@ pub mod Special
 pub mod Sums
 pub mod Quotients
 pub mod Encoding
-pub mod Classes
 pub mod Ranks
 pub mod Predicates

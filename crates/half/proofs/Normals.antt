@@ -1,15 +1,13 @@
 -- Normal operands, those of the short way: finite, not zero, and no DE.
-use Prim.Native.Nat.{ℕ, ◌+◌, ◌*◌, ◌/◌, ◌%◌, ◌^◌, ◌≤◌, ◌<◌}
-use mathlib.Core.Bool.{Bool, true, false, cond, not, ◌&&◌}
+use Prim.Native.Nat.{ℕ, ◌+◌, ◌*◌, ◌%◌, ◌^◌, ◌≤◌, ◌<◌}
+use mathlib.Core.Bool.{Bool, true, false, cond}
 use mathlib.Core.Path.{◌≡◌, refl, sym, ap, ◌∙◌}
 use native.Mathlib.Omega.{arith}
-use native.Mathlib.Nat.{mul-le-mul, mul-mod_left}
-use lib.Arith.{digits_mod}
-use lib.Bits.{bit_and, bit_or, and_mask, or_zero_l}
+use lib.Bits.{bit_or, or_zero_l}
 use lib.Dec.{ltb, eqb}
 use lib.Pow.{shl_exact}
-use borrow.Author.Tests.{ltb-true, ltb-false, eq-eqb, ne_eqb}
-use Rattle.half.specs.Format.{exponent_field, fraction_field, significand, is_finite, is_subnormal, is_zero, negative, units}
+use borrow.Author.Tests.{ltb-true, ne_eqb}
+use Rattle.half.specs.Format.{exponent_field, significand, is_finite, is_subnormal, is_zero, negative, units}
 use Rattle.half.specs.Exact.{ratio, root_of}
 use Rattle.half.specs.Round.{outcome, rounded_half}
 use Rattle.half.specs.Operations.{unlike, exact_sum, half_add, half_multiply, half_divide, half_root, half_multiply_add}
@@ -25,28 +23,7 @@ use Rattle.half.proofs.Sticky.{rounded_scale}
 use Rattle.half.proofs.Scales.{joined}
 use Rattle.half.proofs.Cases.{and_left, and_right, finite_add, finite_multiply, finite_divide, finite_root, finite_multiply_add}
 
--- ---- as the code tests it
-pub normal_test : (h : ℕ) → not (eqb (bit_and ((h + 1024) / 2048) 15) 0) ≡ is_normal h
-normal_test h = rw (and_mask ((h + 1024) / 2048) 4) (go (ltb 0 (exponent_field h)) (ltb (exponent_field h) 31) refl refl)
-  where
-    go : (p q : Bool) → ltb 0 (exponent_field h) ≡ p → ltb (exponent_field h) 31 ≡ q → not (eqb ((h + 1024) / 2048 % 16) 0) ≡ (p && q)
-    go true true e f =
-        let l : 0 < exponent_field h = ltb-true _ _ e in
-        let g : exponent_field h < 31 = ltb-true _ _ f in
-        let k : (h + 1024) / 2048 ≡ h / 1024 / 32 * 16 + (exponent_field h + 1) / 2 = omega arith in
-        let m : (h + 1024) / 2048 % 16 ≡ (exponent_field h + 1) / 2 =
-        ap (λ (n : ℕ). n % 16) k ∙ digits_mod (h / 1024 / 32) (let r : (exponent_field h + 1) / 2 < 16 = omega arith in r) in
-        rw m (rw (ne_eqb ((exponent_field h + 1) / 2) 0 (λ (z : (exponent_field h + 1) / 2 ≡ 0). omega (l, z, arith))))
-    go true false e f =
-        let g : 31 ≤ exponent_field h = ltb-false _ _ f in
-        let k : (h + 1024) / 2048 ≡ (h / 1024 / 32 + 1) * 16 = omega arith in
-        rw (eq-eqb ((h + 1024) / 2048 % 16) 0 (ap (λ (n : ℕ). n % 16) k ∙ mul-mod_left (h / 1024 / 32 + 1) 16))
-    go false q e f =
-        let g : exponent_field h ≤ 0 = ltb-false _ _ e in
-        let k : (h + 1024) / 2048 ≡ h / 1024 / 32 * 16 = omega arith in
-        rw (eq-eqb ((h + 1024) / 2048 % 16) 0 (ap (λ (n : ℕ). n % 16) k ∙ mul-mod_left (h / 1024 / 32) 16))
-
--- and as the code hands it on
+-- ---- as the code hands it on
 pub normal_is : (h : ℕ) {r : Option Normal} {x : Normal} → option_map (λ (n : Normal). n.half) r ≡ cond (is_normal h) (Some h) None
     → r ≡ Some x → x.half ≡ h
 normal_is h {r} {x} e is = go (is_normal h) (sym (ap (option_map (λ (n : Normal). n.half)) is) ∙ e)
@@ -65,9 +42,6 @@ module _ (h : ℕ) (n : is_normal h ≡ true) where
 
   not_least : eqb (exponent_field h) 0 ≡ false
   not_least = ne_eqb (exponent_field h) 0 (λ (e : exponent_field h ≡ 0). omega (arith, normal_ge))
-
-  pub normal_significand : significand h ≡ 1024 + fraction_field h
-  normal_significand = rw not_least
 
   pub normal_finite : is_finite h ≡ true
   normal_finite = rw (ne_eqb (exponent_field h) 31 (λ (e : exponent_field h ≡ 31). omega (arith, normal_lt)))
@@ -123,12 +97,6 @@ module _ (mode : Mode) (unmasked_ue : Bool) (a b : ℕ) (na : is_normal a ≡ tr
       (plain (exact_sum mode unmasked_ue (unlike a b) (units a * units b) (negative c) (units c * 2 ^ 24) (2 ^ 48)))
 
 -- ---- products
-pub product_digits : (x y : ℕ) → 1024 ≤ x → x < 2048 → 1024 ≤ y → y < 2048 → (2 ^ 20 ≤ x * y) × (x * y < 2 ^ 22)
-product_digits x y xl xh yl yh =
-    let l : 1024 * 1024 ≤ x * y = mul-le-mul {n₁ = 1024} {m₁ = 1024} {n₂ = x} {m₂ = y} xl yl in
-    let h : x * y ≤ 2047 * 2047 = mul-le-mul {n₁ = x} {m₁ = y} {n₂ = 2047} {m₂ = 2047} (omega arith) (omega arith) in
-    (omega arith, omega arith)
-
 -- in units of 2 ^ -57
 pub product_units : (a b : ℕ) → is_normal a ≡ true → is_normal b ≡ true → {p i j : ℕ} → p ≡ significand a * significand b
     → i ≡ exponent_field a → j ≡ exponent_field b → p * 2 ^ (i + j + 7) ≡ units a * units b * 2 ^ 9

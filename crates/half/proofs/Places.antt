@@ -3,7 +3,7 @@ use Prim.Native.Nat.{ℕ, zero, suc, ◌+◌, ◌-◌, ◌*◌, ◌/◌, ◌%◌
 use mathlib.Core.Bool.{Bool, true, false}
 use mathlib.Core.Path.{◌≡◌, refl, sym, ap, ◌∙◌}
 use native.Mathlib.Omega.{arith}
-use native.Mathlib.Nat.{div-one, mod-one, mod-eq_of_lt, pow-succ', add-zero, mul-pos, mul-div-mul_right, mul-div_cancel, mul-mod_left}
+use native.Mathlib.Nat.{mod-eq_of_lt, pow-succ', add-zero, mul-pos, mul-div-mul_right, mul-div_cancel, mul-mod_left}
 use native.Mathlib.Nat.{div-div-eq-div-mul, mod-lt, div-add-mod', mul_comm, mul_assoc, le_antisymm, le_of_lt, le_of_eq, le_trans}
 use native.Mathlib.Nat.{lt_of_lt_of_le, le_of_suc-le-suc, lt_of_not-le, not-le_of_lt, div-lt_iff_lt-mul, le-div_iff_mul-le, div-eq_of_lt}
 use native.Mathlib.Nat.{mul-le-mul}
@@ -97,10 +97,6 @@ place-place n d c hd hc =
     ap (λ (x : ℕ). x / (2 * c)) e ∙ digits_div (q / c) lo ∙ div-div-eq-div-mul n d c ∙ ap (λ (x : ℕ). n / x) (mul_comm d c) in
     let md : (2 * q + b) % (2 * c) ≡ 2 * (q % c) + b = ap (λ (x : ℕ). x % (2 * c)) e ∙ digits_mod (q / c) lo in
     rw (dv, md, mod-mul n {m = c} {c = d} hc hd, more_join (q % c) d (n % d) hd)
-
-pub place_one : (t : ℕ) → place t 1 ≡ 2 * t
-unfolding place
-place_one t = rw (div-one t, mod-one t) (omega arith)
 
 pub place_two : (t : ℕ) → place t 2 ≡ t
 unfolding place

@@ -3,7 +3,7 @@ use Prim.Native.Nat.{ℕ, ◌+◌, ◌-◌, ◌*◌, ◌/◌, ◌%◌, ◌^◌, 
 use mathlib.Core.Bool.{Bool, true, false}
 use mathlib.Core.Path.{◌≡◌, refl, sym, ◌∙◌}
 use native.Mathlib.Omega.{arith}
-use native.Mathlib.Nat.{div-le_self, div-lt_iff_lt-mul, mul-pos}
+use native.Mathlib.Nat.{mul-pos}
 use lib.Dec.{leb}
 use lib.Pow.{pow_pos}
 use borrow.Author.Tests.{leb-true, leb-false}
@@ -22,9 +22,6 @@ use Rattle.half.proofs.Normals.{normal_ge, normal_lt, normal_divide}
 
 -- ---- the place of n / y
 module _ (n y : ℕ) where
-  pub place_fits : n < 2 ^ 63 → n / y * 2 + 1 < 2 ^ 64
-  place_fits h = omega (arith, div-le_self n y)
-
   pub place_even : n % y ≡ 0 → n / y * 2 ≡ place n y
   unfolding place
   place_even e = rw e (omega arith)
@@ -32,10 +29,6 @@ module _ (n y : ℕ) where
   pub place_odd : (n % y ≡ 0 → ⊥) → n / y * 2 + 1 ≡ place n y
   unfolding place
   place_odd e = let m : more (n % y) ≡ 1 = omega arith in rw m (omega arith)
-
--- x / y below 2 ^ 20
-pub in_range : (x y : ℕ) → x / 2 ^ 20 < y → min x y < 2 ^ 11 → x < 2 ^ 37
-in_range x y h s = let l : x < y * 2 ^ 20 = (div-lt_iff_lt-mul {k = 2 ^ 20} {x = x} {y = y} (omega arith)).0 h in omega arith
 
 -- ---- the significand of a in the smaller one of two units
 abbrev beside : ℕ → ℕ → ℕ

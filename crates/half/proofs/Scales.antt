@@ -12,7 +12,7 @@ use lib.Pow.{pow-add, pow_pos, pow_mono, shl_exact, shl_lt}
 use borrow.Author.Tests.{leb-false, lt-ltb, le-ltb, ltb-true, ltb-false}
 use mir.Syntax.{w32}
 use mir.Val.{SFits, Fits, to_z, of_z}
-use mir.Facts.{to_z-of_z, to_z_pos, Fits-nat_abs}
+use mir.Facts.{to_z-of_z}
 use Rattle.half.specs.Work.{Shifted, place, scale, Scaled}
 use Rattle.half.specs.declared.product.Shift.TheVariants.{Above, Below}
 use Rattle.half.specs.Format.{significand, units}
@@ -90,12 +90,6 @@ module _ (a b : ℕ) {x y : ℤ} (hx : x ≡ scale a) (hy : y ≡ scale b) where
       ∙ sub_sum (lift a + lift b) 48 26 0
       ∙ sub_shift (lift a + lift b) 22 26
 
-  pub three_fits : SFits w32 (to_z w32 (of_z w32 (to_z w32 (of_z w32 x) +ℤ to_z w32 (of_z w32 y))) +ℤ pos 26)
-  three_fits = rw three (sub_fits (lift a + lift b) 22 (omega (arith, lift_le a, lift_le b)) (omega arith))
-
-pub diff_lit : (n k : ℕ) → n < 2 ^ 31 → to_z w32 n -ℤ pos (suc k) ≡ sub_ℕ n (suc k)
-diff_lit n k h = ap (λ (e : ℤ). e -ℤ pos (suc k)) (to_z_pos w32 h)
-
 pub distance_up : (n b : ℕ) → b ≤ n → nat_abs (sub_ℕ n b) ≡ n - b
 distance_up n b h = ap nat_abs (sub_of_ge n b h)
 
@@ -113,14 +107,6 @@ clash : true ≡ false → ⊥
 clash w = let u : ◌≡◌ {A = ℕ} 0 1 = ap (λ (b : Bool). cond b 0 1) w in omega arith
 
 -- ---- casts of an i32 to a u32
-up_cast : (e : ℤ) → SFits w32 e → le_z (pos 0) e ≡ true → T (non_neg e) × Fits w32 (nat_abs e)
-up_cast (pos n) f h = (tt, Fits-nat_abs tt f)
-up_cast (negsuc n) f h = absurd (let z : ◌≡◌ {A = ℕ} 0 1 = cc in omega arith)
-
-pub up_cast_at : (e : ℤ) → SFits w32 e → le_z (pos 0) (to_z w32 (of_z w32 e)) ≡ true
-    → T (non_neg (to_z w32 (of_z w32 e))) × Fits w32 (nat_abs (to_z w32 (of_z w32 e)))
-up_cast_at e f h = rw (to_z-of_z f) (up_cast e f (rw (to_z-of_z f) at h))
-
 -- minus e, for an e below 0
 abbrev Minus : ℤ → ℤ → Type 0
 Minus e m = SFits w32 m × T (non_neg m) × Fits w32 (nat_abs m) × (nat_abs m ≡ nat_abs e)
@@ -135,10 +121,6 @@ module _ (e : ℤ) (f : SFits w32 e) (h : mag e < 1000) (l : le_z (pos 0) (to_z 
 
   pub minus_fits : SFits w32 (pos 0 -ℤ to_z w32 (of_z w32 e))
   minus_fits = whole.0
-
-  pub minus_cast : T (non_neg (to_z w32 (of_z w32 (pos 0 -ℤ to_z w32 (of_z w32 e))))) × Fits w32
-      (nat_abs (to_z w32 (of_z w32 (pos 0 -ℤ to_z w32 (of_z w32 e)))))
-  minus_cast = rw (to_z-of_z minus_fits) (whole.1, whole.2)
 
   pub minus_is : nat_abs (to_z w32 (of_z w32 (pos 0 -ℤ to_z w32 (of_z w32 e)))) ≡ nat_abs e
   minus_is = rw (to_z-of_z minus_fits) whole.3
@@ -178,19 +160,10 @@ module _ (a b : ℕ) {x y : ℕ} (hx : x ≡ significand a) (hy : y ≡ signific
     e_small : mag e < 1000
     e_small = rw he (distance_mag (lift a + lift b) 22 (omega (arith, lift_le a, lift_le b)) (omega arith))
 
-    pub cast_up : le_z (pos 0) (to_z w32 (of_z w32 e)) ≡ true → T (non_neg (to_z w32 (of_z w32 e))) × Fits w32 (nat_abs (to_z w32 (of_z w32 e)))
-    cast_up l = up_cast_at e e_fits l
-
     -- below, the distance is minus e
     module _ (l : le_z (pos 0) (to_z w32 (of_z w32 e)) ≡ false) where
       abbrev down : ℤ
       down = pos 0 -ℤ to_z w32 (of_z w32 e)
-
-      pub down_fits : SFits w32 down
-      down_fits = minus_fits e e_fits e_small l
-
-      pub cast_down : T (non_neg (to_z w32 (of_z w32 down))) × Fits w32 (nat_abs (to_z w32 (of_z w32 down)))
-      cast_down = minus_cast e e_fits e_small l
 
       pub lowered : Scaled a b (record { significand = x * y; shift = Below (nat_abs (to_z w32 (of_z w32 down))) })
       lowered =

@@ -54,18 +54,6 @@ module _ (mode : Mode) (neg : Bool) (z : ℕ) where
       go false true p q e = rw e (outwards p q)
       go false false p q e = let f : z + c ≡ z = omega arith in rw f (inwards p q)
 
-pub overflow_lt : (mode : Mode) (neg : Bool) → overflow_fields mode neg < 32768
-overflow_lt mode neg = go (is_nearest mode || outward mode neg)
-  where
-    go : (b : Bool) → cond b 0x7C00 0x7BFF < 32768
-    go true = omega arith
-    go false = omega arith
-
-pub carry_le : (n o : Bool) (d : ℕ) → d < 2 → cond n (1 + d) (cond o 3 0) ≤ 3
-carry_le true o d h = omega arith
-carry_le false true d h = omega arith
-carry_le false false d h = omega arith
-
 -- ---- tiny
 module _ (mode : Mode) (neg : Bool) (t : ℕ) where
   at : tiny mode neg (ratio t (2 ^ 27)) ≡ (ltb 0 t && ltb (steps mode neg t) 2048)

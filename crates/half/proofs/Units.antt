@@ -34,13 +34,6 @@ must_be_infinite h f n = go (eqb (exponent_field h) 31) (eqb (fraction_field h) 
     go true false e k = cc
     go false z e k = cc
 
-pub infinite_not_finite : (h : ℕ) → is_infinite h ≡ true → is_finite h ≡ false
-infinite_not_finite h i = go (eqb (exponent_field h) 31) i
-  where
-    go : (b : Bool) → (b && eqb (fraction_field h) 0) ≡ true → not b ≡ false
-    go true e = refl
-    go false e = cc
-
 -- ---- numbers
 
 -- how far the exponent field lifts the significand above the smallest halves

@@ -28,6 +28,7 @@ pub enum Mode {
 
 impl Mode {
     // The mode of two bits, and no From: a number above 3 has no mode (R6.4), and is refused where one comes in (numbers::mode_of).
+    #[tactic(auto, unfolding(crate::specs::Modes::mode_of_bits))]
     pub fn of_bits(bits: u32) -> Mode
         ensures { result ≡ mode_of_bits bits }
     {

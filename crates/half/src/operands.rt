@@ -1,4 +1,5 @@
-// What the operations share (R6.6, R6.7, R6.9), for three operands: an operation with fewer hands its last one in again.
+// What the operations share (R6.6, R6.7, R6.9), for three operands: an operation with fewer hands its last one in again. No slice with
+// `any`, which is a branch for each operand: comparison::picked has none.
 ghost use Rattle.std.specs.Prelude.{◌≡◌, ◌&&◌, cond, [], ◌∷◌};
 ghost use Rattle.std.specs.Int.Bits.{bit_or};
 ghost use Rattle.half.specs.Format.{is_finite, is_nan, is_signalling, is_subnormal};

@@ -56,9 +56,6 @@ module _ (x : Magnitude) (a b : ℕ) where
   pub equals_eq : Equals x a b → left x b ≡ right x a
   equals_eq e = rw e at sides
 
-  pub eq_equals : left x b ≡ right x a → Equals x a b
-  eq_equals e = against_is x a b ∙ cmp_eq (left x b) (right x a) e
-
   pub above_gt : Above x a b → right x a < left x b
   above_gt e = rw e at sides
 

@@ -8,7 +8,7 @@ ghost use Rattle.half.specs.Comparison.{half_minimum, half_maximum, half_compare
 
 use half::{Mode, Outcome, comparison, fused, product, quotient, root, sum};
 
-// A half and its flags, with the number of the answer: 0, or 9 for a mode above 3. A number and no Result, in C's layout: C reads it (R8.1).
+// A half and its flags, with the number of the answer: 0, or 9 for a mode above 3. In C's layout, and no Result: C reads it (R8.1).
 #[repr(C)]
 #[derive(Clone, Copy)]
 pub struct Rounded {
@@ -17,7 +17,7 @@ pub struct Rounded {
     pub number: u8,
 }
 
-// A mode above 3 (R8.2).
+// What is answered to a mode above 3 (R8.2).
 const REFUSED: Rounded = Rounded {
     half: 0,
     flags: 0,

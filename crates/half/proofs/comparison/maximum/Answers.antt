@@ -1,7 +1,6 @@
--- `half::comparison::maximum` meets its contract: what GT_OS picks.
-use mathlib.Core.Path.{◌∙◌}
+use Rattle.std.proofs.Common.{rules}
 use Rattle.half.proofs.Predicates.{maximum_is}
 use Rattle.half.proofs.comparison.maximum.Goals as goal
 
 pub returns : goal.returns
-returns c = c.picked.ensures ∙ rw c.predicate_of.ensures (maximum_is c.args.a c.args.b)
+returns c = search (rules, maximum_is)

@@ -1,7 +1,6 @@
--- `half::comparison::minimum` meets its contract: what LT_OS picks.
-use mathlib.Core.Path.{◌∙◌}
+use Rattle.std.proofs.Common.{rules}
 use Rattle.half.proofs.Predicates.{minimum_is}
 use Rattle.half.proofs.comparison.minimum.Goals as goal
 
 pub returns : goal.returns
-returns c = c.picked.ensures ∙ rw c.predicate_of.ensures (minimum_is c.args.a c.args.b)
+returns c = search (rules, minimum_is)

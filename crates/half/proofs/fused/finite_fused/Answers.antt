@@ -1,3 +1,4 @@
+use Rattle.std.proofs.Common.{rules}
 use native.Mathlib.Omega.{arith}
 use Rattle.half.proofs.Scales.{up_lt, up_units, down_units}
 use Rattle.half.proofs.Sums.{coarse_sum, fine_sum}
@@ -16,8 +17,4 @@ returns-in-Above c =
     (up_units _ _ p.small c.in-Above.k (rw c.in-Above.is at p.shifted)) c.finite_sum.ensures
 
 pub returns-in-Below : goal.returns-in-Below
-returns-in-Below c =
-    let args = c.args in
-    let p = c.scaled_product-p.ensures in
-    fine_sum args.mode args.unmasked_ue args.a args.b args.c c.unlike_signs-neg.ensures c.sign_of-sc.ensures c.magnitude-n.ensures
-    (down_units _ _ p.small c.in-Below.k (rw c.in-Below.is at p.shifted)).0 c.finite_sum-in-Below.ensures
+returns-in-Below c = search (rules, fine_sum, down_units)

@@ -1,3 +1,4 @@
+use Rattle.std.proofs.Common.{rules}
 use native.Mathlib.Omega.{arith}
 use Rattle.half.proofs.Bridge.{steps_le}
 use Rattle.half.proofs.Digits.{packed_over, packed_fits}
@@ -7,11 +8,7 @@ pub overflow_add-m : goal.overflow_add-m
 overflow_add-m c = omega (arith, steps_le c.args.mode c.args.neg c.args.z, c.whole_steps-q.ensures)
 
 pub returns-then-m-ge31744 : goal.returns-then-m-ge31744
-returns-then-m-ge31744 c =
-    packed_over c.args.mode c.args.neg c.args.z c.args.k c.requires.0 c.requires.1
-    c.whole_steps-q.ensures c.if-m-ge31744.true c.overflow.ensures
+returns-then-m-ge31744 c = search (rules, packed_over)
 
 pub returns : goal.returns
-returns c =
-    packed_fits c.args.mode c.args.neg c.args.z c.args.k c.requires.0 c.requires.1
-    c.whole_steps-q.ensures c.if-m-ge31744.false c.with_sign-h.ensures c.flag_if.ensures
+returns c = search (rules, packed_fits)

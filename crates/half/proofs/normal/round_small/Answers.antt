@@ -1,7 +1,6 @@
+use Rattle.std.proofs.Common.{rules}
 use Rattle.half.proofs.Digits.{small_rounds}
 use Rattle.half.proofs.normal.round_small.Goals as goal
 
 pub returns : goal.returns
-returns c =
-    small_rounds _ _ _ c.args.m c.args.e c.requires c.place_of.ensures
-    c.round.ensures
+returns c = search (rules, small_rounds)

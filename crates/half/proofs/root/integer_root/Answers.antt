@@ -1,9 +1,7 @@
 -- The loop goes down to the root: n stays below the square of s + 1.
-use Prim.Native.Nat.{◌^◌}
 use native.Mathlib.Omega.{arith}
-use native.Mathlib.Nat.{div-le_self, mul-le-mul, lt_of_le_of_lt}
-use lib.Dec.{lit<}
-use Rattle.half.proofs.Roots.{mean_above, down, root_found}
+use native.Mathlib.Nat.{div-le_self}
+use Rattle.half.proofs.Roots.{mean_above, root_found}
 use Rattle.half.proofs.root.integer_root.Goals as goal
 
 pub one_down-s-requires : goal.one_down-s-requires

@@ -1,3 +1,4 @@
+use Rattle.std.proofs.Common.{rules}
 use native.Mathlib.Omega.{arith}
 use mathlib.Core.Path.{sym, ◌∙◌}
 use Rattle.half.proofs.Normals.{normal_root}
@@ -5,9 +6,7 @@ use Rattle.half.proofs.Radicands.{normal_radicand_lt, normal_radicand, root_digi
 use Rattle.half.proofs.root.normal_root.Goals as goal
 
 pub root_place-z-requires : goal.root_place-z-requires
-root_place-z-requires c =
-    normal_radicand_lt c.args.a.half c.args.a.normal c.significand.ensures
-    c.exponent-e.ensures.0
+root_place-z-requires c = search (rules, normal_radicand_lt)
 
 pub packed-requires : goal.packed-requires
 packed-requires c =

@@ -1,3 +1,4 @@
+use Rattle.std.proofs.Common.{rules}
 use native.Mathlib.Omega.{arith}
 use lib.Ieee.Digits.{size-le}
 use Rattle.half.proofs.Bridge.{steps_le}
@@ -20,17 +21,7 @@ overflow_add-m c =
     (arith, steps_le c.args.mode c.args.neg c.place_of-z.result)
 
 pub returns-then-m-ge31744 : goal.returns-then-m-ge31744
-returns-then-m-ge31744 c =
-    let dropped = c.dropped-k in
-    over _ _ _ c.args.t _ _ _ dropped.ensures c.place_of-z.ensures
-    c.whole_steps-q.ensures c.if-m-ge31744.true c.overflow.ensures
+returns-then-m-ge31744 c = search (rules, over)
 
 pub returns : goal.returns
-returns c =
-    let dropped = c.dropped-k in
-    let place_of = c.place_of-z in
-    let whole_steps = c.whole_steps-q in
-    let if1 = c.if-m-ge31744 in
-    fit _ _ _ c.args.t _ _ _ dropped.ensures place_of.ensures whole_steps.ensures if1.false
-    c.is_tiny.ensures c.with_sign-h.ensures c.flag_if.ensures
-    c.flag_if-2.ensures
+returns c = search (rules, fit)

@@ -1,3 +1,4 @@
+use Rattle.std.proofs.Common.{rules}
 use Rattle.half.proofs.Sums.{no_sum, summed}
 use Rattle.half.proofs.sum.finite_sum.Goals as goal
 
@@ -5,7 +6,4 @@ pub returns-then-m-eq0 : goal.returns-then-m-eq0
 returns-then-m-eq0 c = no_sum _ _ _ _ _ _ _ c.total-m.ensures c.if-m-eq0.true c.zero_sum.ensures
 
 pub returns : goal.returns
-returns c =
-    let total = c.total-m in
-    summed _ _ _ _ _ _ _ total.ensures c.if-m-eq0.false c.sign_of_larger-neg.ensures
-    c.place_of_sum.ensures c.round.ensures
+returns c = search (rules, summed)
