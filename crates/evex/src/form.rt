@@ -12,6 +12,7 @@ use super::list::Row;
 use super::{Destination, Instruction, Rounding};
 use half::Mode;
 
+// A head, and the row of the list that it has.
 #[derive(Clone, Copy)]
 pub struct Form {
     pub head: Head,
