@@ -114,7 +114,7 @@ pub enum Refusal {
 }
 
 impl Refusal {
-    // The number of the answer (R4.1).
+    // The number of the answer (R4.1). A method, since `From` would not say which number it is.
     pub fn number(self) -> u32
         ensures { result ≡ number_of self }
     {
