@@ -160,5 +160,5 @@ pub fn decode(code: &[u8]) -> Result<Instruction, Refusal>
         return Err(Refusal::Reserved);
     }
     let row = head.listed().ok_or(Refusal::Unlisted)?;
-    decode_row(Form { head, row }, code)
+    decode_row(Form::of(head, row), code)
 }
