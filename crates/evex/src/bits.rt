@@ -4,7 +4,7 @@
 ghost use Rattle.std.specs.Prelude.{◌≡◌, ◌+◌, ◌*◌, ◌<◌, ◌^◌, get_or, pos, ◌*ℤ◌};
 ghost use Rattle.evex.specs.Bits.{bits, is_set, inverted, four_bytes};
 
-// `width` bits of a byte, from bit `at` on.
+// `width` bits of a byte, from bit `at` on. Both are constants at every call, so that a type for numbers below 8 would be no plainer.
 pub(crate) fn bits(x: u8, at: u8, width: u8) -> u8
     requires { (at < 8) × (width < 8) }
     ensures { result ≡ bits x at width }

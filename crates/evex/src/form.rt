@@ -3,6 +3,7 @@
 
 ghost use Rattle.std.specs.Prelude.{◌≡◌, ◌≤◌};
 ghost use Rattle.lists.specs.Lists.{some};
+ghost use Rattle.evex.specs.Fields.{displacement_at, displacement_size};
 ghost use Rattle.evex.specs.Fields.{destination_of, first, elements, rounding, N, displacement_of, immediate_of, size, instruction};
 ghost use Rattle.evex.specs.Decode.{extra_source, scalar_broadcast, zeroing_mask, no_such_mask, reserved_forms};
 
@@ -12,13 +13,28 @@ use super::list::Row;
 use super::{Destination, Instruction, Rounding};
 use half::Mode;
 
+// A head, and the row of the list that it has; where a displacement stands, and how many bytes it has (R3.12).
 #[derive(Clone, Copy)]
 pub struct Form {
     pub head: Head,
     pub row: Row,
+    at: usize,
+    bytes: usize,
+    ghost placed: { (at ≡ displacement_at head) × (bytes ≡ displacement_size head) × (at ≤ 7) × (bytes ≤ 4) },
 }
 
 impl Form {
+    pub(crate) fn of(head: Head, row: Row) -> Form
+        ensures { (result.head ≡ head) × (result.row ≡ row) }
+    {
+        Form {
+            head,
+            row,
+            at: head.displacement_at(),
+            bytes: head.displacement_size(),
+        }
+    }
+
     // A mask, or a vector register (R3.6).
     fn destination(self) -> Destination
         ensures { result ≡ destination_of self.head self.row }
@@ -77,10 +93,9 @@ impl Form {
     fn displacement(self, code: &[u8]) -> i32
         ensures { result ≡ displacement_of self.head self.row code.now }
     {
-        let at = self.head.displacement_at();
-        match self.head.displacement_size() {
-            1 => scaled(byte_at(code, at).cast_signed(), self.unit()),
-            4 => four_bytes_at(code, at).cast_signed(),
+        match self.bytes {
+            1 => scaled(byte_at(code, self.at).cast_signed(), self.unit()),
+            4 => four_bytes_at(code, self.at).cast_signed(),
             _ => 0,
         }
     }
@@ -90,7 +105,7 @@ impl Form {
         ensures { result ≡ immediate_of self.head self.row code.now }
     {
         if self.row.shape().immediate {
-            return byte_at(code, self.head.immediate_at());
+            return byte_at(code, self.at + self.bytes);
         }
         0
     }
@@ -100,9 +115,9 @@ impl Form {
         ensures { result ≡ size self.head self.row }
     {
         if self.row.shape().immediate {
-            return self.head.immediate_at() + 1;
+            return self.at + self.bytes + 1;
         }
-        self.head.immediate_at()
+        self.at + self.bytes
     }
 
     pub(crate) fn instruction(self, code: &[u8]) -> Instruction

@@ -1,7 +1,7 @@
 // The bytes of an instruction up to its displacement, and what they say whatever their row.
 #![tactic(auto, unfolding(crate::specs::Fields::takes_sib, crate::specs::Fields::head_of, crate::specs::Fields::listed, crate::specs::Fields::register_form, crate::specs::Fields::register_b, crate::specs::Fields::vector_lanes, crate::specs::Fields::has_sib, crate::specs::Fields::base_bits, crate::specs::Fields::index_of, crate::specs::Fields::no_base, crate::specs::Fields::base_of, crate::specs::Fields::displacement_at, crate::specs::Fields::displacement_size, crate::specs::Fields::second, crate::specs::Decode::wrong_fixed_bits, crate::specs::Decode::reserved_length, crate::specs::Decode::zeroing_without_mask))]
 
-ghost use Rattle.std.specs.Prelude.{◌≡◌, cond, ◌+◌, ◌≤◌, ◌<◌, length};
+ghost use Rattle.std.specs.Prelude.{◌≡◌, cond, ◌≤◌, ◌<◌, length};
 ghost use Rattle.evex.specs.Bits.{byte};
 ghost use Rattle.evex.specs.Fields.{takes_sib, head_of, z, aaa, b, length_bits, register_form, register_b, vector_lanes, listed, destination};
 ghost use Rattle.evex.specs.Fields.{first_source, second_source, has_sib, base_bits, no_base, base_of, index_number, index_of, displacement_at};
@@ -215,13 +215,6 @@ impl Head {
             return 4;
         }
         0
-    }
-
-    // Behind all else that the head gives (R3.15).
-    pub(crate) fn immediate_at(self) -> usize
-        ensures { (result ≡ displacement_at self + displacement_size self) × (result ≤ 11) }
-    {
-        self.displacement_at() + self.displacement_size()
     }
 
     // R3.6, R3.8.

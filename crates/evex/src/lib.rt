@@ -87,8 +87,8 @@ pub enum Operand {
     Memory { address: Address, broadcast: bool },
 }
 
-// The fields of an instruction. Elements are 1, 8, 16 or 32, one to a lane from lane 0 on (R3.7); `mask` is aaa (R5.1); the immediate is 0
-// where there is none; the size is the length in bytes (R3.14).
+// The fields of an instruction. Elements are 1, 8, 16 or 32, one to a lane from lane 0 on (R3.7); `mask` is aaa (R5.1); the first source
+// is a vector register; the immediate is 0 where there is none; the size is the length in bytes (R3.14).
 // Its bounds are no ghost field: `destination_of` (specs/Fields.antt) makes one of any bytes, and a mask above 7 where R4.10 refuses.
 #[derive(Clone, Copy)]
 pub struct Instruction {
@@ -114,7 +114,7 @@ pub enum Refusal {
 }
 
 impl Refusal {
-    // The number of the answer (R4.1).
+    // The number of the answer (R4.1). A method, since `From` would not say which number it is.
     pub fn number(self) -> u32
         ensures { result ≡ number_of self }
     {
@@ -160,5 +160,5 @@ pub fn decode(code: &[u8]) -> Result<Instruction, Refusal>
         return Err(Refusal::Reserved);
     }
     let row = head.listed().ok_or(Refusal::Unlisted)?;
-    decode_row(Form { head, row }, code)
+    decode_row(Form::of(head, row), code)
 }
