@@ -1,4 +1,3 @@
 -- What the functions' proofs cite.
 pub mod Sets
-pub mod Signed
 pub mod Words

@@ -15,11 +15,7 @@ use machine::Located;
 fn wrapped(d: i32) -> u64
     ensures { result ≡ wrapped d }
 {
-    if d < 0 {
-        u64::MAX - ((-1 - d) as u64)
-    } else {
-        d as u64
-    }
+    i64::from(d).cast_unsigned()
 }
 
 fn base_value(base: Option<Base>, general: &[u64; 16], next: u64) -> u64
@@ -113,7 +109,7 @@ fn words_outside(on: u32, length: u64, at: u64, broadcast: bool) -> bool
     }
     let mut found = false;
     for j in 0..end {
-        found = found | lane_outside(on, length, at, broadcast, j);
+        found |= lane_outside(on, length, at, broadcast, j);
     }
     found
 }

@@ -19,18 +19,12 @@ use mask::{end_of, has};
 pub mod address;
 pub mod mask;
 
-fn wide(x: u8) -> u16
-    ensures { (result ≡ x) × (result < 256) }
-{
-    x as u16
-}
-
 // The half of two bytes, the lower first.
 fn half_at(bytes: &[u8], at: usize) -> u16
     requires { at + 1 < length bytes.now }
     ensures { result ≡ number_at bytes.now (at ∷ (at + 1) ∷ []) }
 {
-    wide(bytes[at]) + wide(bytes[at + 1]) * 256
+    u16::from_le_bytes([bytes[at], bytes[at + 1]])
 }
 
 fn register_halves(vectors: &[u8], n: usize) -> [u16; 32]

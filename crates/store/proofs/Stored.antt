@@ -8,17 +8,17 @@ use mathlib.Core.List.{List, ◌++◌}
 use native.Mathlib.Nat.{div-one}
 use native.Mathlib.Omega.{arith}
 use borrow.Author.Tests.{not-false}
-use lib.Bits.{bit_xor}
 use lib.ListN.{get_or, set, take, drop}
 use lib.Seq.{drop-drop}
 use Rattle.lists.proofs.Tests.{either_equal}
 use Rattle.lists.proofs.Tables.{table_equal, part_at, paste_whole}
 use Rattle.evex.specs.Bits.{is_set}
-use Rattle.evex.proofs.Bitwise.{no_bit, bit_above, flipped_bit}
+use Rattle.evex.proofs.Bitwise.{no_bit, bit_above}
 use Rattle.machine.specs.State.{register_at, byte_at, byte_of_half}
 use Rattle.machine.specs.Lanes.{Fill, computed, copied, filled, new_register, vectors_with}
 use Rattle.machine.proofs.TwoRuns.{new_length}
 use Rattle.store.specs.Work.{kept_or}
+use Rattle.store.proofs.Kept.{other_lanes}
 use Rattle.lists.proofs.Filling.{Filled, more, same}
 
 -- a register's bytes in the place of the old ones
@@ -94,11 +94,11 @@ module _ (kept : ℕ → Bool) (halves : List ℕ) where
   pasted file n = rw (part file n) (replaced (kept_or kept n) file halves n)
 
 -- from the last lane that is not kept on all are
-pub rest_left : (kept end : ℕ) (halves d : List ℕ) → bit_xor kept (2 ^ 32 - 1) < 2 ^ end
+pub rest_left : (kept end : ℕ) (halves d : List ℕ) → kept < 2 ^ 32 → 2 ^ 32 - 1 - kept < 2 ^ end
     → (k : ℕ) → 2 * end ≤ k → k < 64 → get_or d k 0 ≡ byte_of (is_set kept) halves 0 d k
-rest_left kept end halves d h k l m =
+rest_left kept end halves d f h k l m =
     left (is_set kept) halves d k
-    (not-false _ (sym (flipped_bit kept 32 (k / 2) (omega arith)) ∙ bit_above (bit_xor kept (2 ^ 32 - 1)) end (k / 2) h (omega arith)))
+    (not-false _ (sym (other_lanes kept (k / 2) f (omega arith)) ∙ bit_above (2 ^ 32 - 1 - kept) end (k / 2) h (omega arith)))
 
 -- where no lane is kept, every one is computed
 pub none_kept : (kept : ℕ) (d halves : List ℕ) → kept ≡ 0

@@ -1,6 +1,6 @@
 -- The 64 bytes of a scalar instruction's destination: lanes 1 to 7 from another register, lane 0 kept or stored, 0 above.
 -- Assumes nothing.
-use Prim.Native.Nat.{ℕ, ◌+◌, ◌*◌, ◌/◌, ◌%◌, ◌≤◌}
+use Prim.Native.Nat.{ℕ, ◌+◌, ◌-◌, ◌*◌, ◌/◌, ◌%◌, ◌<◌, ◌≤◌}
 use mathlib.Core.Path.{◌≡◌, refl, sym, ap, ◌∙◌}
 use mathlib.Core.Bool.{Bool, true, false, cond}
 use mathlib.Core.List.{List, [], ◌∷◌, ◌++◌}
@@ -9,10 +9,11 @@ use native.Mathlib.Nat.{div-one}
 use native.Mathlib.Omega.{arith}
 use borrow.Author.Tests.{lt-ltb, le-ltb}
 use lib.Dec.{ltb, lit<, lit≤}
-use lib.ListN.{get_or, set, take, drop}
-use lib.Seq.{paste}
+use lib.ListN.{length, get_or, set, take, drop, replicate, length-append, length-drop, get_or-append, get_or-replicate}
+use lib.Seq.{paste, length-take-le}
+use Rattle.std.proofs.lemmas.List.{get_or-append_right}
 use Rattle.lists.specs.Lists.{or_all, table}
-use Rattle.lists.proofs.Tables.{table_equal, length-table, get_or-table}
+use Rattle.lists.proofs.Tables.{table_equal, length-table, get_or-table, is_table, part_at}
 use Rattle.machine.specs.State.{register_at, byte_at}
 use Rattle.machine.specs.Lanes.{lanes_on, Fill, computed, copied, zeroed, filled, new_register, vectors_with}
 use Rattle.store.specs.Work.{kept_or, scalar_or}
@@ -29,6 +30,23 @@ pub one_lane : (p : ℕ → Bool) (f : ℕ → ℕ) → ((j : ℕ) → 1 ≤ j �
 one_lane p f off = or_all_lem (or_more or_none refl) (lit≤ tt) (λ k h. rw (off k h))
 
 -- ---- the destination
+
+-- sixteen bytes of a register, and 0 behind them
+pub lower_is : (file : List ℕ) (n : ℕ) → n < 32 → length file ≡ 2048
+    → take 16 (drop (n * 64) file) ++ replicate 48 0 ≡ table 64 (λ q. cond (ltb q 16) (byte_at file n q) 0)
+lower_is file n h size = is_table 64 _ 0 _ (length-append (take 16 (drop (n * 64) file)) (replicate 48 0) ∙ rw front) at_each
+  where
+    front : length (take 16 (drop (n * 64) file)) ≡ 16
+    front = length-take-le 16 (drop (n * 64) file) (rw (length-drop (n * 64) file, size) (omega (arith, h)))
+
+    at_each : (k : ℕ) → k < 64 → get_or (take 16 (drop (n * 64) file) ++ replicate 48 0) k 0 ≡ cond (ltb k 16) (byte_at file n k) 0
+    at_each k l =
+        elim (dec_lt k 16) [
+          | yes y ↦ rw (lt-ltb k 16 y) (get_or-append (take 16 (drop (n * 64) file)) (replicate 48 0) 0 k (rw front y) ∙ part_at file (n * 64) 16 k 0 y)
+          | no y ↦
+              rw (le-ltb k 16 (omega arith))
+              (get_or-append_right _ (replicate 48 0) 16 k 0 front (omega arith) ∙ get_or-replicate 48 (k - 16) 0 0 (omega arith))
+        ]
 
 -- byte q of register n, whose lanes 1 to 7 come from another
 module _ (kept : ℕ → Bool) (halves : List ℕ) (from n : ℕ) (file : List ℕ) where
@@ -60,14 +78,13 @@ module _ (kept : ℕ → Bool) (halves : List ℕ) (from n : ℕ) (file : List �
 
   -- the register as it is stored: the other's bytes, and then those two
   abbrev around : List ℕ
-  around = set (set (table 64 (λ q. get_or (table 64 lower_byte) q 0)) 0 low) 1 high
+  around = set (set (table 64 lower_byte) 0 low) 1 high
 
   around_is : around ≡ new_register (scalar_or kept from n) file halves
   unfolding new_register
   around_is =
-      let bytes : ℕ → ℕ = λ q. get_or (table 64 lower_byte) q 0 in
-      all (more (more (none {d = table 64 bytes} (length-table 64 bytes)) (lit< tt) low_is) (lit< tt) (sym (byte_of_lem kept halves n file 1)))
-      (λ k h l. get_or-table 64 bytes k 0 l ∙ get_or-table 64 lower_byte k 0 l ∙ above k h)
+      all (more (more (none {d = table 64 lower_byte} (length-table 64 lower_byte)) (lit< tt) low_is) (lit< tt) (sym (byte_of_lem kept halves n file 1)))
+      (λ k h l. get_or-table 64 lower_byte k 0 l ∙ above k h)
 
   pub stored : take (n * 64) file ++ (around ++ drop 64 (drop (n * 64) file)) ≡ vectors_with (scalar_or kept from n) file halves n
   stored = rw around_is (replaced (scalar_or kept from n) file halves n)

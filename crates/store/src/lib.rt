@@ -16,31 +16,19 @@ use sources::mask::{below, end_of, has};
 
 mod scalar;
 
-fn low_byte(half: u16) -> u8
-    ensures { result ≡ half % 256 }
-{
-    (half % 256) as u8
-}
-
-fn high_byte(half: u16) -> u8
-    ensures { result ≡ half / 256 % 256 }
-{
-    (half / 256) as u8
-}
-
 // Writes lane j of a register.
-fn store_half(register: &mut [u8], half: u16, j: usize)
-    requires { (length register.old ≡ 64) × (j < 32) }
+fn store_half(register: &mut [u8; 64], half: u16, j: usize)
+    requires { j < 32 }
     ensures { register.new ≡ set (set register.old (2 * j) (half % 256)) (2 * j + 1) (half / 256 % 256) }
 {
     let at = 2 * j;
-    register[at] = low_byte(half);
-    register[at + 1] = high_byte(half);
+    let [low, high] = half.to_le_bytes();
+    register[at] = low;
+    register[at + 1] = high;
 }
 
 // Writes every lane.
-fn store_all(register: &mut [u8], halves: [u16; 32])
-    requires { length register.old ≡ 64 }
+fn store_all(register: &mut [u8; 64], halves: [u16; 32])
     ensures { register.new ≡ new_register (λ j. computed) register.old halves }
 {
     for j in 0..32 {
@@ -49,11 +37,10 @@ fn store_all(register: &mut [u8], halves: [u16; 32])
 }
 
 // Writes the lanes that are not kept. The loop ends behind the last of them.
-fn store_some(register: &mut [u8], kept: u32, halves: [u16; 32])
-    requires { length register.old ≡ 64 }
+fn store_some(register: &mut [u8; 64], kept: u32, halves: [u16; 32])
     ensures { register.new ≡ new_register (kept_or (is_set kept) 0) register.old halves }
 {
-    let end = end_of(kept ^ u32::MAX);
+    let end = end_of(!kept);
     for j in 0..end {
         if has(kept, j) {
             continue;
@@ -67,6 +54,9 @@ fn store_lanes(register: &mut [u8], kept: u32, halves: [u16; 32])
     requires { length register.old ≡ 64 }
     ensures { register.new ≡ new_register (kept_or (is_set kept) 0) register.old halves }
 {
+    let Some(register) = register.as_mut_array::<64>() else {
+        return;
+    };
     if kept == 0 {
         store_all(register, halves);
         return;
@@ -74,8 +64,8 @@ fn store_lanes(register: &mut [u8], kept: u32, halves: [u16; 32])
     store_some(register, kept, halves);
 }
 
-fn store_packed(vectors: &mut [u8], n: usize, kept: u32, halves: [u16; 32])
-    requires { (length vectors.old ≡ 2048) × (n < 32) }
+fn store_packed(vectors: &mut [u8; 2048], n: usize, kept: u32, halves: [u16; 32])
+    requires { n < 32 }
     ensures { vectors.new ≡ vectors_with (kept_or (is_set kept) n) vectors.old halves n }
 {
     let at = n * 64;
@@ -91,12 +81,12 @@ fn lanes_kept(on: u32, i: Instruction) -> u32
     if i.zeroing {
         return 0;
     }
-    (on ^ u32::MAX) & below(i.elements)
+    !on & below(i.elements)
 }
 
 // Register n.
-fn store_vector(vectors: &mut [u8], on: u32, i: Instruction, n: usize, results: Results)
-    requires { (length vectors.old ≡ 2048) × Bounds i × (n < 32) }
+fn store_vector(vectors: &mut [u8; 2048], on: u32, i: Instruction, n: usize, results: Results)
+    requires { Bounds i × (n < 32) }
     ensures { vectors.new ≡ vectors_with (stored_by (is_set on) i n) vectors.old (halves_of i results) n }
 {
     let kept = lanes_kept(on, i);
@@ -116,7 +106,7 @@ fn sixteen_bits(halves: [u16; 32], from: usize) -> u16
 {
     let mut bits = 0u16;
     for j in 0..16 {
-        bits = bits | ((halves[from + j] % 2) << j);
+        bits |= (halves[from + j] % 2) << j;
     }
     bits
 }
@@ -124,7 +114,7 @@ fn sixteen_bits(halves: [u16; 32], from: usize) -> u16
 fn mask_of(halves: [u16; 32]) -> u32
     ensures { result ≡ lowest_bits halves }
 {
-    (sixteen_bits(halves, 0) as u32) | ((sixteen_bits(halves, 16) as u32) << 16)
+    u32::from(sixteen_bits(halves, 0)) | (u32::from(sixteen_bits(halves, 16)) << 16)
 }
 
 // R5.11: every bit of the mask.
@@ -141,12 +131,15 @@ pub fn store(vectors: &mut [u8], masks: &mut [u64; 8], on: u32, i: Instruction, 
     ensures { (vectors.new ≡ vectors_stored (is_set on) i results vectors.old i.destination)
         × (masks.new ≡ masks_stored results masks.old i.destination) }
 {
+    let Some(vectors) = vectors.as_mut_array::<2048>() else {
+        return;
+    };
     let destination = i.destination;
     match destination {
         Destination::Vector(n) => store_vector(vectors, on, i, n, results),
         Destination::Mask(n) => {
             let halves = results.halves;
-            store_mask(masks, n, mask_of(halves) as u64);
+            store_mask(masks, n, u64::from(mask_of(halves)));
         }
     }
 }

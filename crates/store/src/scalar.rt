@@ -7,8 +7,8 @@ ghost use Rattle.machine.specs.State.{byte_at};
 ghost use Rattle.machine.specs.Lanes.{upper_from, vectors_with};
 ghost use Rattle.store.specs.Work.{scalar_or};
 
-use super::{high_byte, low_byte};
 use evex::Instruction;
+use half::choice::either;
 use sources::mask::has;
 
 // R5.10: the first source, or the destination n where that is an operand.
@@ -24,48 +24,36 @@ pub(crate) fn upper_from(i: Instruction, n: usize) -> usize
 }
 
 // A register's bytes up to lane 7, and 0 above.
-fn lower_lanes(vectors: &[u8], n: usize) -> [u8; 64]
-    requires { (length vectors.now ≡ 2048) × (n < 32) }
+fn lower_lanes(vectors: &[u8; 2048], n: usize) -> [u8; 64]
+    requires { n < 32 }
     ensures { result ≡ table 64 (λ q. cond (ltb q 16) (byte_at vectors.now n q) 0) }
 {
     let mut bytes = [0u8; 64];
-    for q in 0..16 {
-        bytes[q] = vectors[n * 64 + q];
-    }
+    let at = n * 64;
+    bytes[..16].copy_from_slice(&vectors[at..at + 16]);
     bytes
 }
 
 // Writes a register, and then the two bytes of its lane 0: the 64 are copied in one piece.
 fn store_around(register: &mut [u8], bytes: [u8; 64], low: u8, high: u8)
     requires { length register.old ≡ 64 }
-    ensures { register.new ≡ set (set (table 64 (λ q. get_or bytes q 0)) 0 low) 1 high }
+    ensures { register.new ≡ set (set bytes 0 low) 1 high }
 {
-    for q in 0..64 {
-        register[q] = bytes[q];
-    }
+    register.copy_from_slice(&bytes);
     register[0] = low;
     register[1] = high;
 }
 
-// The byte that stands there, where its lane is kept, or the new one.
-fn kept_or(kept: bool, old: u8, new: u8) -> u8
-    ensures { result ≡ cond kept old new }
-{
-    if kept {
-        return old;
-    }
-    new
-}
-
-pub(crate) fn store_scalar(vectors: &mut [u8], n: usize, from: usize, kept: u32, half: u16)
-    requires { (length vectors.old ≡ 2048) × (n < 32) × (from < 32) }
+pub(crate) fn store_scalar(vectors: &mut [u8; 2048], n: usize, from: usize, kept: u32, half: u16)
+    requires { (n < 32) × (from < 32) }
     ensures { vectors.new ≡ vectors_with (scalar_or (is_set kept) from n) vectors.old (half ∷ []) n }
 {
     let bytes = lower_lanes(vectors, from);
     let at = n * 64;
     let end = at + 64;
     let keeps = has(kept, 0);
-    let low = kept_or(keeps, vectors[at], low_byte(half));
-    let high = kept_or(keeps, vectors[at + 1], high_byte(half));
+    let [low, high] = half.to_le_bytes();
+    let low = either(keeps, vectors[at], low);
+    let high = either(keeps, vectors[at + 1], high);
     store_around(&mut vectors[at..end], bytes, low, high);
 }

@@ -1,5 +1,5 @@
 -- `sources::destination_halves` meets its contract: by the kind of destination, and by the column.
-use Rattle.std.proofs.Common.{◌≡◌, ℕ, Bool, true, false, cond, List}
+use Rattle.std.proofs.Common.{◌≡◌, ℕ, Bool, false, cond, List}
 use Rattle.lists.specs.Lists.{table}
 use Rattle.machine.specs.Lanes.{no_halves}
 use Rattle.sources.proofs.destination_halves.Goals as goal
@@ -8,10 +8,7 @@ pub returns-in_default : goal.returns-in_default
 unfolding table
 returns-in_default c = rw c.in_default.is
 
--- a source, or none
-is_source : (t : Bool) {r whole : List ℕ} → t ≡ true → r ≡ whole → r ≡ cond t whole no_halves
-is_source t e r = rw e r
-
+-- no source
 is_none : (t : Bool) (whole : List ℕ) → t ≡ false → no_halves ≡ cond t whole no_halves
 is_none t whole e = rw e
 

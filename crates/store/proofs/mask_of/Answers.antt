@@ -13,5 +13,6 @@ pub returns : goal.returns
 returns c =
     let low : c.sixteen_bits.result < 2 ^ 16 = search rules in
     let high : c.sixteen_bits-2.result < 2 ^ 16 = search rules in
-    ap (bit_or c.sixteen_bits.result) (shl_exact 16 16 32 high (lit≤ tt))
-    ∙ from_halves (λ j. get_or c.args.halves j 0 % 2) c.sixteen_bits.ensures c.sixteen_bits-2.ensures low
+    rw (c.from.ensures, c.from-2.ensures)
+    (ap (bit_or c.sixteen_bits.result) (shl_exact 16 16 32 high (lit≤ tt))
+    ∙ from_halves (λ j. get_or c.args.halves j 0 % 2) c.sixteen_bits.ensures c.sixteen_bits-2.ensures low)

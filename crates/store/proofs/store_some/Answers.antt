@@ -13,4 +13,4 @@ returns c =
     all c.loop-j.invariant
     (λ k h l.
     let e : 2 * c.end_of-end.result ≤ k = omega (arith, c.loop-j-test.false) in
-    rest_left _ _ _ _ c.end_of-end.ensures.0 k e l)
+    rest_left _ _ _ _ c.ranges.kept.fits c.end_of-end.ensures.0 k e l)

@@ -1,12 +1,11 @@
--- `store::scalar::lower_lanes` meets its contract: the loop fills sixteen bytes, and 0 stands behind them.
-use mathlib.Core.Path.{sym, ◌∙◌}
-use native.Mathlib.Nat.{le_trans}
-use borrow.Author.Tests.{le-ltb}
-use lib.ListN.{get_or-replicate}
-use Rattle.lists.proofs.Filling.{all}
+-- `store::scalar::lower_lanes` meets its contract: sixteen bytes, and 0 behind them.
+use Prim.Native.Nat.{◌+◌, ◌*◌, ◌-◌}
+use mathlib.Core.Path.{◌≡◌}
+use native.Mathlib.Omega.{arith}
+use Rattle.store.proofs.Upper.{lower_is}
 use Rattle.store.proofs.scalar.lower_lanes.Goals as goal
 
 pub returns : goal.returns
 returns c =
-    all c.loop-q.invariant
-    (λ k h l. get_or-replicate 64 k 0 0 l ∙ sym (rw (le-ltb k 16 (le_trans c.loop-q-test.false h))))
+    let e : c.args.n * 64 + 16 - c.args.n * 64 ≡ 16 = omega arith in
+    rw (c.copy_from_slice.ensures.after, e) (lower_is c.args.vectors.now c.args.n c.requires c.told-vectors)

@@ -16,8 +16,7 @@ returns c =
       c.lower_lanes-bytes.ensures,
       c.kept_or-high.ensures,
       c.kept_or-low.ensures,
-      c.high_byte.ensures,
-      c.low_byte.ensures,
+      c.to_le_bytes.ensures,
       c.has-keeps.ensures,
       e,
     )
