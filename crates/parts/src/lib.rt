@@ -79,10 +79,13 @@ pub(crate) fn clear(part: &mut [u8])
     part.fill(0);
 }
 
-// A register's 64 bytes over a part.
+// A register's 64 bytes over a part, through an array of its own: the back end does not see that the two do not overlap, and goes by single
+// bytes or asks first.
 pub fn copy_register(part: &mut [u8], register: &[u8])
     requires { (length part.old ≡ 64) × (length register.now ≡ 64) }
     ensures { part.new ≡ register.now }
 {
-    part.copy_from_slice(register);
+    let mut held = [0u8; 64];
+    held.copy_from_slice(register);
+    part.copy_from_slice(&held);
 }
