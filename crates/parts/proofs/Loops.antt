@@ -6,14 +6,17 @@ use mathlib.Core.Path.{◌≡◌, refl, sym, ◌∙◌}
 use mathlib.Core.List.{List, [], ◌∷◌}
 use native.Mathlib.Nat.{lt_of_lt_of_le, pow-le-pow_right}
 use native.Mathlib.Omega.{arith}
+use lib.Bits.{bit_or, or_zero_l, or_zero_r}
 use lib.Dec.{eqb, lit≤}
 use lib.ListN.{length, get_or, take, drop}
+use Rattle.std.specs.List.{fold}
+use Rattle.std.specs.Simd.{first_chunks}
 use Rattle.lists.specs.Lists.{or_all, table}
-use Rattle.lists.proofs.Tables.{is_table, or_not_zero}
-use Rattle.lists.proofs.Filling.{Ored, or_full}
+use Rattle.lists.proofs.Tables.{or_not_zero, or_group}
 use Rattle.lists.proofs.Binary.{binary_next}
 use Rattle.machine.specs.State.{register_at}
 use Rattle.forms.specs.File.{present, register, presence, sum_to, place_of}
+use Rattle.parts.proofs.Turns.{chunk_is}
 use Rattle.forms.proofs.Slices.{length_part}
 use Rattle.forms.proofs.Pieces.{sum_next}
 use Rattle.forms.proofs.Words.{digit, word_of, word_below}
@@ -26,10 +29,12 @@ unfolding present
 all_zero [] = refl
 all_zero (x ∷ l) = or_not_zero x (or_all l) ∙ rw (all_zero l)
 
--- by their places
-pub present_is : (l : List ℕ) {all j : ℕ} → length l ≡ 64 → Ored (λ k. get_or l k 0) all j → j ≤ 64 → 64 ≤ j → not (eqb all 0) ≡ present l
-present_is l size O within h =
-    rw (or_full O within h, ← is_table 64 (λ k. get_or l k 0) 0 l size (λ k i. refl)) (all_zero l)
+or_folded : (l : List ℕ) (a : ℕ) → fold bit_or a l ≡ bit_or a (or_all l)
+or_folded [] a = sym (or_zero_r a)
+or_folded (x ∷ l) a = or_folded l (bit_or a x) ∙ or_group a x (or_all l)
+
+pub present_is : (l : List ℕ) {all : ℕ} → all ≡ fold bit_or 0 l → not (eqb all 0) ≡ present l
+present_is l e = rw (e, or_folded l 0, or_zero_l (or_all l)) (all_zero l)
 
 -- register i, as the loops lend it
 pub lent_register : (l : List ℕ) (i : ℕ) → take (64 * (i + 1) - 64 * i) (drop (64 * i) l) ≡ register l i
@@ -37,6 +42,10 @@ lent_register l i = let e : 64 * (i + 1) - 64 * i ≡ 64 = omega arith in rw e (
 
 pub register_long : (l : List ℕ) (i : ℕ) → length l ≡ 2048 → i < 32 → length (take (64 * (i + 1) - 64 * i) (drop (64 * i) l)) ≡ 64
 register_long l i h k = rw (lent_register l i) (length_part (register_at i) 64 l (omega arith))
+
+-- and as one of the file's chunks
+pub chunk_register : (l : List ℕ) {rows : List (List ℕ)} {n : ℕ} (i : ℕ) → rows ≡ first_chunks 64 n l → i < n → get_or rows i [] ≡ register l i
+chunk_register l {n = n} i e h = rw e (chunk_is 64 n l i h ∙ register_is l i)
 
 -- ---- the word of a file: x has the bits of the first i registers
 

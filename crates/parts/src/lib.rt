@@ -9,12 +9,6 @@ ghost use Rattle.forms.specs.File.{zeros};
 pub mod file;
 mod packing;
 
-fn wide(x: u8) -> u64
-    ensures { (result ≡ x) × (result < 256) }
-{
-    x as u64
-}
-
 // The byte of x that has `below` bytes below it.
 fn byte_of(x: u64, below: usize) -> u8
     requires { below < 8 }
@@ -29,9 +23,9 @@ pub fn put_number(part: &mut [u8], x: u64)
     ensures { part.new ≡ big (length part.old) x }
 {
     let n = part.len();
-    for k in 0..n {
+    for (k, byte) in part.iter_mut().enumerate() {
         let below = n - 1 - k;
-        part[k] = byte_of(x, below);
+        *byte = byte_of(x, below);
     }
 }
 
@@ -41,21 +35,21 @@ pub fn read_number(part: &[u8]) -> u64
     ensures { (result ≡ value_from 0 part.now) × (result < 256 ^ length part.now) }
 {
     let mut x = 0;
-    for k in 0..part.len() {
-        x = x * 256 + wide(part[k]);
+    for byte in part {
+        x = x * 256 + u64::from(*byte);
     }
     x
 }
 
-// Registers of 8 bytes each over a part.
+// Registers of 8 bytes each over a part, which is lent by places: std does not say what it holds after `as_chunks_mut` or `chunks_mut`.
 pub fn put_registers(part: &mut [u8], values: &[u64])
     requires { length part.old ≡ 8 * length values.now }
     ensures { part.new ≡ registers (length values.now) values.now }
 {
-    for k in 0..values.len() {
+    for (k, value) in values.iter().enumerate() {
         let at = 8 * k;
         let end = 8 * (k + 1);
-        put_number(&mut part[at..end], values[k]);
+        put_number(&mut part[at..end], *value);
     }
 }
 
@@ -64,10 +58,9 @@ pub fn read_registers(part: &[u8], values: &mut [u64])
     requires { length part.now ≡ 8 * length values.old }
     ensures { values.new ≡ table (length values.old) (λ k. number_in part.now (8 * k) 8) }
 {
-    for k in 0..values.len() {
-        let at = 8 * k;
-        let end = 8 * (k + 1);
-        values[k] = read_number(&part[at..end]);
+    let (numbers, _) = part.as_chunks::<8>();
+    for (k, value) in values.iter_mut().enumerate() {
+        *value = read_number(&numbers[k]);
     }
 }
 
@@ -76,18 +69,14 @@ pub(crate) fn copy(part: &mut [u8], bytes: &[u8])
     requires { length part.old ≡ length bytes.now }
     ensures { part.new ≡ bytes.now }
 {
-    for k in 0..bytes.len() {
-        part[k] = bytes[k];
-    }
+    part.copy_from_slice(bytes);
 }
 
 // Zeros over a part.
 pub(crate) fn clear(part: &mut [u8])
     ensures { part.new ≡ zeros (length part.old) }
 {
-    for k in 0..part.len() {
-        part[k] = 0;
-    }
+    part.fill(0);
 }
 
 // A register's 64 bytes over a part, through an array of its own: the back end does not see that the two do not overlap, and goes by single
@@ -97,10 +86,6 @@ pub fn copy_register(part: &mut [u8], register: &[u8])
     ensures { part.new ≡ register.now }
 {
     let mut held = [0u8; 64];
-    for k in 0..64 {
-        held[k] = register[k];
-    }
-    for k in 0..64 {
-        part[k] = held[k];
-    }
+    held.copy_from_slice(register);
+    part.copy_from_slice(&held);
 }

@@ -8,14 +8,9 @@ use crate::{clear, copy_register, put_number, read_number};
 
 // Some byte of a register is not zero: all are or-ed, so that the loop has no branch.
 fn is_present(register: &[u8]) -> bool
-    requires { length register.now ≡ 64 }
     ensures { result ≡ present register.now }
 {
-    let mut all = 0;
-    for k in 0..64 {
-        all = all | register[k];
-    }
-    all != 0
+    register.iter().fold(0, |all, byte| all | *byte) != 0
 }
 
 // Bit i of a word.
@@ -27,8 +22,8 @@ fn is_marked(word: u32, i: usize) -> bool
 }
 
 // The bit of register i in the word, 0 where it is all zero.
-fn mark(register: &[u8], i: usize) -> u32
-    requires { (i < 32) × (length register.now ≡ 64) }
+fn mark(register: &[u8; 64], i: usize) -> u32
+    requires { i < 32 }
     ensures { result ≡ cond (present register.now) 1 0 * 2 ^ i }
 {
     if is_present(register) {
@@ -43,10 +38,9 @@ pub(crate) fn word_of(vectors: &[u8]) -> u32
     ensures { result ≡ presence vectors.now }
 {
     let mut word = 0;
-    for i in 0..32 {
-        let at = 64 * i;
-        let end = 64 * (i + 1);
-        word = word + mark(&vectors[at..end], i);
+    let (registers, _) = vectors.as_chunks::<64>();
+    for (i, register) in registers.iter().enumerate() {
+        word = word + mark(register, i);
     }
     word
 }
@@ -74,9 +68,8 @@ pub(crate) fn size_by(word: u32) -> usize
 }
 
 // A register at a place, if it is marked; the place behind it.
-fn put_one(part: &mut [u8], at: usize, word: u32, i: usize, register: &[u8]) -> usize
+fn put_one(part: &mut [u8], at: usize, word: u32, i: usize, register: &[u8; 64]) -> usize
     requires { (i < 32)
-        × (length register.now ≡ 64)
         × (is_set word i ≡ present register.now)
         × (at + length (if_present register.now) ≤ length part.old) }
     ensures { (result ≡ at + length (if_present register.now))
@@ -101,10 +94,9 @@ pub(crate) fn put_packed(part: &mut [u8], word: u32, vectors: &[u8])
 {
     put_number(&mut part[0..4], word as u64);
     let mut at = 4;
-    for i in 0..32 {
-        let from = 64 * i;
-        let end = 64 * (i + 1);
-        at = put_one(part, at, word, i, &vectors[from..end]);
+    let (registers, _) = vectors.as_chunks::<64>();
+    for (i, register) in registers.iter().enumerate() {
+        at = put_one(part, at, word, i, register);
     }
 }
 
@@ -172,7 +164,7 @@ fn read_one(word: u32, i: usize, part: &[u8], at: usize, register: &mut [u8]) ->
     at
 }
 
-// The file that is packed in a part.
+// The file that is packed in a part. Registers are lent by places: std does not say what the file holds after `as_chunks_mut`.
 pub(crate) fn read_packed(part: &[u8], vectors: &mut [u8])
     requires { (length vectors.old ≡ 2048) × (length part.now ≡ packed_size part.now) }
     ensures { vectors.new ≡ unpack part.now }

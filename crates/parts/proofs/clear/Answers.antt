@@ -1,12 +1,11 @@
--- `parts::clear` meets its contract: after k turns the first k bytes are zero.
-use mathlib.Core.Path.{sym}
-use native.Mathlib.Omega.{arith}
-use Rattle.lists.proofs.Tables.{length-table, get_or-table}
-use Rattle.parts.proofs.Written.{nothing, stored}
+-- `parts::clear` meets its contract: as many zeros as the part has bytes. Assumes nothing.
+use lib.ListN.{length, replicate}
+use mathlib.Core.Path.{◌∙◌}
+use Rattle.std.proofs.lemmas.List.{length-replicate, get_or-replicate}
+use Rattle.lists.proofs.Tables.{is_table}
 use Rattle.parts.proofs.clear.Goals as goal
 
-pub loop-k-init : goal.loop-k-init
-loop-k-init c = nothing _ _ (length-table _ _)
-
-pub loop-k-preserved : goal.loop-k-preserved
-loop-k-preserved c = stored c.loop-k.invariant 0 (omega arith) (sym (get_or-table _ (λ k. 0) _ 0 c.loop-k-test.true))
+pub returns : goal.returns
+returns c =
+    let n = length c.args.part.now in
+    c.fill.ensures.after (λ y e. e) ∙ is_table n (λ k. 0) 0 (replicate n 0) (length-replicate n 0) (λ k h. get_or-replicate n k 0 0 h)

@@ -12,4 +12,5 @@ loop-k-init c = nothing _ _ (length-table _ _)
 pub loop-k-preserved : goal.loop-k-preserved
 loop-k-preserved c =
     stored c.loop-k.invariant 0 (omega arith)
-    (c.read_number.ensures.0 ∙ read_register _ _ _ c.loop-k-test.true)
+    (c.read_number.ensures.0
+    ∙ read_register c.args.part.now _ c.loop-k.k c.as_chunks.ensures.front (omega (arith, c.requires)) c.loop-k-test.true)

@@ -1,17 +1,12 @@
--- `parts::packing::is_present` meets its contract: after k turns the first k bytes are or-ed.
-use mathlib.Core.Path.{refl}
-use native.Mathlib.Omega.{arith}
-use Rattle.lists.proofs.Filling.{or_none, or_more}
+-- `parts::packing::is_present` meets its contract: all bytes are or-ed.
+use mathlib.Core.Path.{◌≡◌}
+use lib.Bits.{bit_or}
+use Rattle.std.proofs.Common.{rules}
+use Rattle.std.specs.List.{fold}
 use Rattle.parts.proofs.Loops.{present_is}
 use Rattle.parts.proofs.packing.is_present.Goals as goal
 
-pub loop-k-init : goal.loop-k-init
-loop-k-init c = (omega arith, or_none)
-
-pub loop-k-preserved : goal.loop-k-preserved
-loop-k-preserved c = (omega arith, or_more c.loop-k.invariant.1 refl)
-
 pub returns : goal.returns
 returns c =
-    present_is c.args.register.now c.requires c.loop-k.invariant.1 c.loop-k.invariant.0
-    (omega arith)
+    let e : c.fold.result ≡ fold bit_or 0 c.args.register.now = search rules in
+    present_is c.args.register.now e
