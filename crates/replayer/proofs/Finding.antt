@@ -10,7 +10,8 @@ use lib.Seq.{drop-drop}
 use Rattle.std.proofs.lemmas.List.{get_or-take}
 use Rattle.std.specs.List.{IsSplitAt}
 use Rattle.forms.specs.Numbers.{value_from}
-use Rattle.recording.specs.Item.{code_count, code_in, memory_count, memory_in, control_at, expected_control, expected_destination, item_size, is_bad}
+use Rattle.recording.specs.Item.{code_count, code_in, memory_count, memory_in, control_at, expected_control, expected_destination}
+use Rattle.recording.specs.Item.{item_size, is_bad}
 use Rattle.recording.specs.Reports.{WellFormed}
 use Rattle.recording.proofs.Tests.{well_formed}
 

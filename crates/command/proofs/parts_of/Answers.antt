@@ -31,7 +31,8 @@ returns-then-code-gt4096 c =
     let size = c.size_at.ensures.0 in
     let form = c.in_ok-form.ensures.cases in
     let count = c.in_ok-count.ensures.cases in
-    not_laid _ (λ w. omega (arith, w.code, counted _ size form count c.read_number.ensures.0, c.in_ok-code.ensures.cases, c.if-code-gt4096.true))
+    not_laid _
+    (λ w. omega (arith, w.code, counted _ size form count c.read_number.ensures.0, c.in_ok-code.ensures.cases, c.if-code-gt4096.true))
 
 pub returns-then-memory-gt32768 : goal.returns-then-memory-gt32768
 returns-then-memory-gt32768 c =

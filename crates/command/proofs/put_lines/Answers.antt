@@ -17,7 +17,8 @@ returns-then-answer-ne0 c =
 
 pub loop-offset-smaller : goal.loop-offset-smaller
 loop-offset-smaller c =
-    omega (arith, moved c.loop-offset.invariant c.machine_step-answer.ensures.left c.loop-offset-test.true c.if-answer-ne0.false, c.loop-offset-test.true)
+    let inside = c.loop-offset-test.true in
+    omega (arith, moved c.loop-offset.invariant c.machine_step-answer.ensures.left inside c.if-answer-ne0.false, inside)
 
 pub loop-offset-preserved : goal.loop-offset-preserved
 loop-offset-preserved c =

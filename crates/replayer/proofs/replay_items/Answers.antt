@@ -11,13 +11,14 @@ returns-in_default c = bad c.loop-machine.invariant c.is_empty.ensures c.loop-ma
 pub returns-then-differs : goal.returns-then-differs
 returns-then-differs c =
     let item = c.in-Some.ensures in
-    other c.loop-machine.invariant c.is_empty.ensures c.loop-machine-test.true item (sym (c.differs.ensures.value _ item) ∙ c.if-differs.true)
+    other c.loop-machine.invariant c.is_empty.ensures c.loop-machine-test.true item
+    (sym (c.differs.ensures.value _ item) ∙ c.if-differs.true)
 
 pub loop-machine-preserved : goal.loop-machine-preserved
 loop-machine-preserved c =
     let item = c.in-Some.ensures in
-    goes c.loop-machine.invariant c.is_empty.ensures c.loop-machine-test.true item (sym (c.differs.ensures.value _ item) ∙ c.if-differs.false)
-    (c.differs.ensures.state_after _ item)
+    goes c.loop-machine.invariant c.is_empty.ensures c.loop-machine-test.true item
+    (sym (c.differs.ensures.value _ item) ∙ c.if-differs.false) (c.differs.ensures.state_after _ item)
 
 pub returns : goal.returns
 returns c = ends c.loop-machine.invariant c.is_empty.ensures c.loop-machine-test.false

@@ -8,32 +8,55 @@ use Rattle.replayer.proofs.Finding.{destination_found, rest_found}
 use Rattle.replayer.proofs.item.find.Goals as goal
 
 pub returns-in_err-head : goal.returns-in_err-head
-returns-in_err-head c = rw c.from_residual.ensures (is_bad_lem c.args.bytes.now (λ w. omega (arith, w.whole, c.in_err-head.ensures.cases)))
+returns-in_err-head c = rw c.from_residual.ensures (is_bad_lem _ (λ w. omega (arith, w.whole, c.in_err-head.ensures.cases)))
 
 pub returns-in_err-code : goal.returns-in_err-code
 returns-in_err-code c =
+    let head = c.in_ok-head.ensures.cases in
+    let codes = code_counted _ head c.from.ensures in
     rw c.from_residual-in_err-code.ensures (is_bad_lem _
-    (λ w. omega (arith, w.whole, code_counted _ c.in_ok-head.ensures.cases c.from.ensures, c.in_ok-head.ensures.cases, c.in_err-code.ensures.cases)))
+    (λ w. omega (arith, w.whole, codes, head, c.in_err-code.ensures.cases)))
 
 pub returns-in_err-count : goal.returns-in_err-count
 returns-in_err-count c =
+    let head = c.in_ok-head.ensures.cases in
+    let code = c.in_ok-code.ensures.cases in
+    let codes = code_counted _ head c.from.ensures in
     rw c.from_residual-in_err-count.ensures (is_bad_lem _
-    (λ w. omega (arith, w.whole, code_counted _ c.in_ok-head.ensures.cases c.from.ensures, c.in_ok-head.ensures.cases, c.in_ok-code.ensures.cases, c.in_err-count.ensures.cases)))
+    (λ w. omega (arith, w.whole, codes, head, code, c.in_err-count.ensures.cases)))
 
 pub returns-in_err-memory : goal.returns-in_err-memory
 returns-in_err-memory c =
+    let head = c.in_ok-head.ensures.cases in
+    let code = c.in_ok-code.ensures.cases in
+    let count = c.in_ok-count.ensures.cases in
+    let codes = code_counted _ head c.from.ensures in
+    let memories = memory_counted _ head c.from.ensures code count c.read_number.ensures.0 in
     rw c.from_residual-in_err-memory.ensures (is_bad_lem _
-    (λ w. omega (arith, w.whole, code_counted _ c.in_ok-head.ensures.cases c.from.ensures, memory_counted _ c.in_ok-head.ensures.cases c.from.ensures c.in_ok-code.ensures.cases c.in_ok-count.ensures.cases c.read_number.ensures.0, c.in_ok-head.ensures.cases, c.in_ok-code.ensures.cases, c.in_ok-count.ensures.cases, c.in_err-memory.ensures.cases)))
+    (λ w. omega (arith, w.whole, codes, memories, head, code, count, c.in_err-memory.ensures.cases)))
 
 pub returns-in_err-control : goal.returns-in_err-control
 returns-in_err-control c =
+    let head = c.in_ok-head.ensures.cases in
+    let code = c.in_ok-code.ensures.cases in
+    let count = c.in_ok-count.ensures.cases in
+    let memory = c.in_ok-memory.ensures.cases in
+    let codes = code_counted _ head c.from.ensures in
+    let memories = memory_counted _ head c.from.ensures code count c.read_number.ensures.0 in
     rw c.from_residual-in_err-control.ensures (is_bad_lem _
-    (λ w. omega (arith, w.whole, code_counted _ c.in_ok-head.ensures.cases c.from.ensures, memory_counted _ c.in_ok-head.ensures.cases c.from.ensures c.in_ok-code.ensures.cases c.in_ok-count.ensures.cases c.read_number.ensures.0, c.in_ok-head.ensures.cases, c.in_ok-code.ensures.cases, c.in_ok-count.ensures.cases, c.in_ok-memory.ensures.cases, c.in_err-control.ensures.cases)))
+    (λ w. omega (arith, w.whole, codes, memories, head, code, count, memory, c.in_err-control.ensures.cases)))
 
 pub returns-in_err-destination : goal.returns-in_err-destination
 returns-in_err-destination c =
+    let head = c.in_ok-head.ensures.cases in
+    let code = c.in_ok-code.ensures.cases in
+    let count = c.in_ok-count.ensures.cases in
+    let memory = c.in_ok-memory.ensures.cases in
+    let control = c.in_ok-control.ensures.cases in
+    let codes = code_counted _ head c.from.ensures in
+    let memories = memory_counted _ head c.from.ensures code count c.read_number.ensures.0 in
     rw c.from_residual-in_err-destination.ensures (is_bad_lem _
-    (λ w. omega (arith, w.whole, code_counted _ c.in_ok-head.ensures.cases c.from.ensures, memory_counted _ c.in_ok-head.ensures.cases c.from.ensures c.in_ok-code.ensures.cases c.in_ok-count.ensures.cases c.read_number.ensures.0, c.in_ok-head.ensures.cases, c.in_ok-code.ensures.cases, c.in_ok-count.ensures.cases, c.in_ok-memory.ensures.cases, c.in_ok-control.ensures.cases, c.in_err-destination.ensures.cases)))
+    (λ w. omega (arith, w.whole, codes, memories, head, code, count, memory, control, c.in_err-destination.ensures.cases)))
 
 pub returns-then-head-ne1 : goal.returns-then-head-ne1
 returns-then-head-ne1 c =
@@ -41,43 +64,45 @@ returns-then-head-ne1 c =
 
 pub returns-then-code-gt15 : goal.returns-then-code-gt15
 returns-then-code-gt15 c =
-    is_bad_lem _ (λ w. omega (arith, w.code, code_counted _ c.in_ok-head.ensures.cases c.from.ensures, c.in_ok-code.ensures.cases, c.if-code-gt15.true))
+    let codes = code_counted _ c.in_ok-head.ensures.cases c.from.ensures in
+    is_bad_lem _ (λ w. omega (arith, w.code, codes, c.in_ok-code.ensures.cases, c.if-code-gt15.true))
 
 pub returns-then-memory-gt4096 : goal.returns-then-memory-gt4096
 returns-then-memory-gt4096 c =
-    is_bad_lem _ (λ w. omega (arith, w.memory, memory_counted _ c.in_ok-head.ensures.cases c.from.ensures c.in_ok-code.ensures.cases c.in_ok-count.ensures.cases c.read_number.ensures.0, c.in_ok-memory.ensures.cases, c.if-memory-gt4096.true))
+    let head = c.in_ok-head.ensures.cases in
+    let code = c.in_ok-code.ensures.cases in
+    let count = c.in_ok-count.ensures.cases in
+    let memories = memory_counted _ head c.from.ensures code count c.read_number.ensures.0 in
+    is_bad_lem _ (λ w. omega (arith, w.memory, memories, c.in_ok-memory.ensures.cases, c.if-memory-gt4096.true))
 
 pub returns-then-size_at-bytes : goal.returns-then-size_at-bytes
 returns-then-size_at-bytes c =
-    is_bad_lem _ (λ w. c.if-size_at-bytes.true (omega (
-      arith,
-      w.field,
-      c.size_at.ensures.0,
-      code_counted _ c.in_ok-head.ensures.cases c.from.ensures,
-      memory_counted _ c.in_ok-head.ensures.cases c.from.ensures c.in_ok-code.ensures.cases c.in_ok-count.ensures.cases c.read_number.ensures.0,
-      c.in_ok-head.ensures.cases,
-      c.in_ok-code.ensures.cases,
-      c.in_ok-count.ensures.cases,
-      c.in_ok-memory.ensures.cases,
-      c.in_ok-control.ensures.cases,
-      c.in_ok-destination.ensures.cases,
-    )))
+    let head = c.in_ok-head.ensures.cases in
+    let code = c.in_ok-code.ensures.cases in
+    let count = c.in_ok-count.ensures.cases in
+    let memory = c.in_ok-memory.ensures.cases in
+    let control = c.in_ok-control.ensures.cases in
+    let destination = c.in_ok-destination.ensures.cases in
+    let codes = code_counted _ head c.from.ensures in
+    let memories = memory_counted _ head c.from.ensures code count c.read_number.ensures.0 in
+    is_bad_lem _ (λ w. c.if-size_at-bytes.true
+    (omega (arith, w.field, c.size_at.ensures.0, codes, memories, head, code, count, memory, control, destination)))
 
 pub returns : goal.returns
 returns c =
     let head = c.in_ok-head.ensures.cases in
     let code = c.in_ok-code.ensures.cases in
     let count = c.in_ok-count.ensures.cases in
-    let number = c.read_number.ensures.0 in
     let memory = c.in_ok-memory.ensures.cases in
     let control = c.in_ok-control.ensures.cases in
     let destination = c.in_ok-destination.ensures.cases in
     let codes = code_counted _ head c.from.ensures in
-    let memories = memory_counted _ head c.from.ensures code count number in
+    let memories = memory_counted _ head c.from.ensures code count c.read_number.ensures.0 in
+    let number = c.read_number.ensures.0 in
     record {
       good = not_bad _ (record {
-        whole = omega (arith, codes, memories, c.in_ok-head.ensures.cases, c.in_ok-code.ensures.cases, c.in_ok-count.ensures.cases, c.in_ok-memory.ensures.cases, c.in_ok-control.ensures.cases, c.in_ok-destination.ensures.cases);
-        field = omega (arith, codes, memories, c.in_ok-head.ensures.cases, c.in_ok-code.ensures.cases, c.in_ok-count.ensures.cases, c.in_ok-memory.ensures.cases, c.in_ok-control.ensures.cases, c.in_ok-destination.ensures.cases, c.size_at.ensures.0, c.if-size_at-bytes.false);
+        whole = omega (arith, codes, memories, head, code, count, memory, control, destination);
+        field = omega (arith, codes, memories, head, code, count, memory, control, destination, c.size_at.ensures.0, c.if-size_at-bytes.false);
         version = sym (in_head _ head 4 (omega arith)) ∙ c.if-head-ne1.false;
         code = omega (arith, codes, code, c.if-code-gt15.false);
         memory = omega (arith, memories, memory, c.if-memory-gt4096.false);
