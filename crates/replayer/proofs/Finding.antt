@@ -76,3 +76,6 @@ module _ (bytes : List ℕ) {head one : List ℕ} (h : IsChunk bytes 7 head one)
 
         pub rest_found : six ≡ drop (item_size bytes) bytes
         rest_found = behind bytes (control_at bytes + 4) 64 from_destination h₅.1
+
+        pub measured : item_size bytes + length six ≡ length bytes
+        measured = omega (arith, code_counted, memory_counted, h, h₁, h₂, h₃, h₄, h₅)

@@ -4,7 +4,7 @@ use mathlib.Core.Path.{sym, ◌∙◌}
 use native.Mathlib.Omega.{arith}
 use Rattle.recording.proofs.Tests.{not_bad}
 use Rattle.replayer.proofs.Finding.{is_bad_lem, in_head, code_counted, memory_counted, code_found, memory_found, control_found}
-use Rattle.replayer.proofs.Finding.{destination_found, rest_found}
+use Rattle.replayer.proofs.Finding.{destination_found, rest_found, measured}
 use Rattle.replayer.proofs.item.find.Goals as goal
 
 pub returns-in_err-head : goal.returns-in_err-head
@@ -77,35 +77,27 @@ returns-then-memory-gt4096 c =
 
 pub returns-then-size_at-bytes : goal.returns-then-size_at-bytes
 returns-then-size_at-bytes c =
-    let head = c.in_ok-head.ensures.cases in
-    let code = c.in_ok-code.ensures.cases in
-    let count = c.in_ok-count.ensures.cases in
-    let memory = c.in_ok-memory.ensures.cases in
-    let control = c.in_ok-control.ensures.cases in
-    let destination = c.in_ok-destination.ensures.cases in
-    let codes = code_counted _ head c.from.ensures in
-    let memories = memory_counted _ head c.from.ensures code count c.read_number.ensures.0 in
-    is_bad_lem _ (λ w. c.if-size_at-bytes.true
-    (omega (arith, w.field, c.size_at.ensures.0, codes, memories, head, code, count, memory, control, destination)))
+    let size = measured _ c.in_ok-head.ensures.cases c.from.ensures c.in_ok-code.ensures.cases c.in_ok-count.ensures.cases
+    c.read_number.ensures.0 c.in_ok-memory.ensures.cases c.in_ok-control.ensures.cases c.in_ok-destination.ensures.cases in
+    is_bad_lem _ (λ w. c.if-size_at-bytes.true (omega (arith, w.field, c.size_at.ensures.0, size)))
 
 pub returns : goal.returns
 returns c =
     let head = c.in_ok-head.ensures.cases in
     let code = c.in_ok-code.ensures.cases in
     let count = c.in_ok-count.ensures.cases in
+    let number = c.read_number.ensures.0 in
     let memory = c.in_ok-memory.ensures.cases in
     let control = c.in_ok-control.ensures.cases in
     let destination = c.in_ok-destination.ensures.cases in
-    let codes = code_counted _ head c.from.ensures in
-    let memories = memory_counted _ head c.from.ensures code count c.read_number.ensures.0 in
-    let number = c.read_number.ensures.0 in
+    let size = measured _ head c.from.ensures code count number memory control destination in
     record {
       good = not_bad _ (record {
-        whole = omega (arith, codes, memories, head, code, count, memory, control, destination);
-        field = omega (arith, codes, memories, head, code, count, memory, control, destination, c.size_at.ensures.0, c.if-size_at-bytes.false);
+        whole = omega (arith, size);
+        field = omega (arith, size, c.size_at.ensures.0, c.if-size_at-bytes.false);
         version = sym (in_head _ head 4 (omega arith)) ∙ c.if-head-ne1.false;
-        code = omega (arith, codes, code, c.if-code-gt15.false);
-        memory = omega (arith, memories, memory, c.if-memory-gt4096.false);
+        code = omega (arith, code_counted _ head c.from.ensures, code, c.if-code-gt15.false);
+        memory = omega (arith, memory_counted _ head c.from.ensures code count number, memory, c.if-memory-gt4096.false);
       });
       number = in_head _ head 5 (omega arith);
       code = code_found _ head c.from.ensures code count number;
