@@ -11,7 +11,6 @@ use lib.ListN.{length, drop, length-append, length-drop, length-take}
 use Rattle.machine.specs.State.{State, Stepped}
 use Rattle.machine.specs.Step.{step, run}
 use Rattle.machine.proofs.Answers.{lengths}
-use Rattle.forms.specs.Saved.{size_at}
 use Rattle.command.specs.Command.{step_line, stop_line, lines_from, bad_input, code_of, memory_of, start_of, is_laid_out, is_good, printed}
 use Rattle.command.specs.Command.{room}
 use Rattle.command.specs.Runs.{ended, stopped, done, Runs, Prints}
@@ -87,9 +86,9 @@ runs : (input : List ℕ) → is_good input ≡ true → Runs (memory_of input) 
 unfolding printed
 runs input e = rw e (runs_from (memory_of input) (code_of input) (length (code_of input)) (start_of input) 0 (omega arith))
 
-good_laid_out : (input : List ℕ) → is_good input ≡ true → LaidOut input (size_at input)
+good_laid_out : (input : List ℕ) → is_good input ≡ true → LaidOut input
 unfolding is_good
-good_laid_out input e = laid_out input (size_at input) refl (both (is_laid_out input) e).0
+good_laid_out input e = laid_out input (both (is_laid_out input) e).0
 
 fits : (input : List ℕ) → length (printed input) ≤ room
 unfolding printed bad_input

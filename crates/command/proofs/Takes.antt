@@ -1,11 +1,10 @@
 -- The statement `Takes` of specs/Runs.antt: each part is found where it was put, behind the form's own length.
 -- Assumes nothing.
-use Prim.Native.Nat.{ℕ, ◌+◌, ◌-◌, ◌≤◌}
+use Prim.Native.Nat.{ℕ, ◌+◌, ◌≤◌}
 use mathlib.Core.Bool.{true, false}
 use mathlib.Core.List.{List, ◌++◌}
 use mathlib.Core.Path.{◌≡◌, sym, ap, ◌∙◌}
 use native.Mathlib.Omega.{arith}
-use borrow.Author.Tests.{le-leb}
 use lib.ListN.{length, drop, length-append}
 use lib.Seq.{take_at, drop_at, drop-drop}
 use Rattle.lists.proofs.Tests.{equal}
@@ -19,9 +18,9 @@ use Rattle.forms.specs.Trips.{Held}
 use Rattle.forms.proofs.Numbers.{length-big, value_big}
 use Rattle.forms.proofs.Sizes.{forms_in_front}
 use Rattle.forms.proofs.Front.{front_loads}
-use Rattle.command.specs.Command.{code_length, is_laid_out, is_good}
+use Rattle.command.specs.Command.{code_length, memory_of, is_laid_out, is_good}
 use Rattle.command.specs.Runs.{Taken, Takes}
-use Rattle.command.proofs.Input.{by_memory}
+use Rattle.command.proofs.Input.{is_laid}
 
 module _ (v : Version) (s : State) (code memory : List ℕ) (S : Held s) (file : wrong_vector_file s ≡ false)
     (control : high_control_bit s ≡ false) (short : length code ≤ 4096) (small : length memory ≤ 32768) where
@@ -63,10 +62,17 @@ module _ (v : Version) (s : State) (code memory : List ℕ) (S : Held s) (file :
       length-append form rest
       ∙ omega (arith, length-append (big 2 (length code)) (code ++ memory), length-append code memory, length_two)
 
+  memory-is : memory_of (form ++ rest) ≡ memory
+  memory-is = rw (code-length, size) behind_code
+
   laid_out : is_laid_out (form ++ rest) ≡ true
   laid_out =
-      by_memory (form ++ rest) (sym size) (omega (arith, total)) (sym code-length) short (omega (arith, total))
-      ∙ le-leb (length (form ++ rest) - (length form + 2 + length code)) 32768 (omega (arith, total, small))
+      is_laid (form ++ rest) (record {
+        head = omega (arith, size, total);
+        code = omega (arith, code-length, short);
+        whole = omega (arith, size, code-length, total);
+        memory = omega (arith, ap length memory-is, small);
+      })
 
   loads : load_front (form ++ rest) ≡ record { number = 0; state = s }
   loads = front_loads v s rest S file control
@@ -78,7 +84,7 @@ module _ (v : Version) (s : State) (code memory : List ℕ) (S : Held s) (file :
         good = rw (laid_out, loads);
         start = ap (λ (l : Load). l.state) loads;
         code_is = rw (code-length, size, behind_length) (take_at code memory (length code) (omega arith));
-        memory_is = rw (code-length, size) behind_code;
+        memory_is = memory-is;
       }
 
 pub takes : Takes

@@ -1,86 +1,29 @@
 // The command (R10.1 to R10.6): a saved state, code and memory are read, steps are made, and their lines are put into the output.
 #![tactic(auto)]
 
-ghost use Rattle.std.specs.Prelude.{◌≡◌, ◌+◌, ◌≤◌, ◌<◌, length, drop};
-ghost use Rattle.machine.specs.Step.{step};
-ghost use Rattle.machine.specs.State.{state_of, stepped_of};
-ghost use Rattle.forms.specs.Saved.{size_at};
+ghost use Rattle.std.specs.Prelude.{◌≡◌, ◌≤◌, false, length, MatchOption};
+ghost use Rattle.machine.specs.State.{lent_state};
 ghost use Rattle.text.specs.Text.{Wrote};
 ghost use Rattle.text.specs.Put.{Put};
-ghost use Rattle.command.specs.Command.{step_line, lines_from, code_length, is_laid_out, printed, room, commanded};
+ghost use Rattle.command.specs.Command.{lines_from, is_laid_out, printed, room, commanded};
+ghost use Rattle.command.specs.Work.{AreParts};
 
 use line::{put_step_line, put_stop_line};
-use machine::Answer;
+use machine::{Machine, Registers};
 use text::put_text;
 
 mod line;
 
-// What a step answered, and the place behind its line.
-#[derive(Drop)]
-struct Turn {
-    answer: Answer,
-    next: usize,
-}
-
-// A step at an offset of the code, and its line.
-fn put_step(
-    vectors: &mut [u8],
-    masks: &mut [u64; 8],
-    general: &[u64; 16],
-    control: &mut u32,
-    pointer: &mut u64,
-    code: &[u8],
-    memory: &[u8],
-    offset: usize,
-    out: &mut [u8],
-    at: usize,
-) -> Turn
-    requires { (offset ≤ length code.now) × (at + 51 ≤ length out.old) }
-    ensures state_after { stepped_of result.answer vectors.new masks.new general.now control.new pointer.new
-        ≡ step memory.now
-        (state_of vectors.old masks.old general.now control.old pointer.old)
-        (drop offset code.now) }
-    ensures put { Put (step_line offset result.answer.number control.new) out.old at result.next out.new }
-{
-    let answer = step::step(
-        vectors,
-        masks,
-        general,
-        control,
-        pointer,
-        &code[offset..],
-        memory,
-    );
-    let next = put_step_line(out, at, offset, answer.number, *control);
-    Turn { answer, next }
-}
-
-// R10.3, R10.5: step after step, to the end of the code or an answer other than 0.
-fn put_lines(
-    vectors: &mut [u8],
-    masks: &mut [u64; 8],
-    general: &[u64; 16],
-    control: &mut u32,
-    pointer: &mut u64,
-    code: &[u8],
-    memory: &[u8],
-    out: &mut [u8],
-) -> usize
+// R10.3, R10.5: step after step, to the end of the code or an answer other than 0, each with its line. The state is not looked at again.
+fn put_lines(mut machine: Machine<'_>, code: &[u8], memory: &[u8], out: &mut [u8]) -> usize
     requires { (length code.now ≤ 4096) × (room ≤ length out.old) }
-    ensures { Put
-        (lines_from (length code.now) memory.now code.now
-        (state_of vectors.old masks.old general.now control.old pointer.old)
-        0)
-        out.old 0 result out.new }
+    ensures { Put (lines_from (length code.now) memory.now code.now (lent_state machine.entry) 0) out.old 0 result out.new }
 {
     let mut offset = 0;
     let mut at = 0;
     while offset < code.len() {
-        let turn = put_step(
-            vectors, masks, general, control, pointer, code, memory, offset, out, at,
-        );
-        let answer = turn.answer;
-        at = turn.next;
+        let answer = step::machine_step(&mut machine, &code[offset..], memory);
+        at = put_step_line(out, at, offset, answer.number, *machine.control);
         if answer.number != 0 {
             return put_stop_line(out, at, offset);
         }
@@ -89,37 +32,28 @@ fn put_lines(
     put_stop_line(out, at, offset)
 }
 
-fn wide(x: u8) -> usize
-    ensures { (result ≡ x) × (result < 256) }
-{
-    x as usize
+// The parts of input that is laid out.
+#[derive(Clone, Copy)]
+struct Parts<'a> {
+    form: &'a [u8],
+    code: &'a [u8],
+    memory: &'a [u8],
 }
 
-// R10.1: the code's length, in two bytes behind the saved state.
-fn code_length(input: &[u8], behind: usize) -> usize
-    requires { (behind ≡ size_at input.now) × (behind + 2 ≤ length input.now) }
-    ensures { (result ≡ code_length input.now) × (result < 65536) }
+// R10.1: saved state, code length, code and memory, which have their sizes.
+fn parts_of(input: &[u8]) -> Option<Parts<'_>>
+    ensures { MatchOption result (is_laid_out input.now ≡ false) (λ parts. AreParts input.now parts) }
 {
-    wide(input[behind]) * 256 + wide(input[behind + 1])
-}
-
-// R10.1: saved state, code length, code and memory have their sizes.
-fn is_laid_out(input: &[u8]) -> bool
-    ensures { result ≡ is_laid_out input.now }
-{
-    let behind = saved::size_at(input);
-    if input.len() < behind + 2 {
-        return false;
+    let (form, rest) = input.split_at_checked(saved::size_at(input))?;
+    let (count, rest) = rest.split_first_chunk::<2>()?;
+    let (code, memory) = rest.split_at_checked(parts::read_number(count) as usize)?;
+    if 4096 < code.len() {
+        return None;
     }
-    let length = code_length(input, behind);
-    if 4096 < length {
-        return false;
+    if 32768 < memory.len() {
+        return None;
     }
-    let end = behind + 2 + length;
-    if input.len() < end {
-        return false;
-    }
-    input.len() - end <= 32768
+    Some(Parts { form, code, memory })
 }
 
 // All that is printed for the input.
@@ -127,38 +61,35 @@ fn print(input: &[u8], out: &mut [u8]) -> usize
     requires { room ≤ length out.old }
     ensures { Put (printed input.now) out.old 0 result out.new }
 {
-    if !is_laid_out(input) {
+    let Some(parts) = parts_of(input) else {
         return put_text(out, 0, b"bad input\n");
-    }
-    let mut vectors = [0u8; 2048];
-    let mut masks = [0u64; 8];
-    let mut general = [0u64; 16];
-    let mut control = 0u32;
-    let mut pointer = 0u64;
-    let behind = saved::size_at(input);
+    };
+    let mut own = Registers {
+        vectors: [0u8; 2048],
+        masks: [0u64; 8],
+        general: [0u64; 16],
+        control: 0,
+        pointer: 0,
+    };
     let number = saved::load(
-        &input[0..behind],
-        &mut vectors,
-        &mut masks,
-        &mut general,
-        &mut control,
-        &mut pointer,
+        parts.form,
+        &mut own.vectors,
+        &mut own.masks,
+        &mut own.general,
+        &mut own.control,
+        &mut own.pointer,
     );
     if number != 0 {
         return put_text(out, 0, b"bad input\n");
     }
-    let code = behind + 2;
-    let end = code + code_length(input, behind);
-    put_lines(
-        &mut vectors,
-        &mut masks,
-        &general,
-        &mut control,
-        &mut pointer,
-        &input[code..end],
-        &input[end..],
-        out,
-    )
+    let machine = Machine {
+        vectors: &mut own.vectors,
+        masks: &mut own.masks,
+        general: &own.general,
+        control: &mut own.control,
+        pointer: &mut own.pointer,
+    };
+    put_lines(machine, parts.code, parts.memory, out)
 }
 
 // Every text fits so many bytes (R10.6).

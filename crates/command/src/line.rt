@@ -6,6 +6,7 @@ ghost use Rattle.command.specs.Command.{step_line, stop_line};
 use text::{put_decimal, put_hex, put_text};
 
 // R10.4: the line of a step.
+#[tactic(auto, using(text::proofs::Digits::decimal_most, text::proofs::Digits::hex_eight))]
 pub fn put_step_line(out: &mut [u8], at: usize, offset: usize, number: u32, control: u32) -> usize
     requires { at + 51 ≤ length out.old }
     ensures { Put (step_line offset number control) out.old at result out.new }
@@ -19,6 +20,7 @@ pub fn put_step_line(out: &mut [u8], at: usize, offset: usize, number: u32, cont
 }
 
 // R10.5: the last line.
+#[tactic(auto, using(text::proofs::Digits::decimal_most))]
 pub fn put_stop_line(out: &mut [u8], at: usize, offset: usize) -> usize
     requires { at + 26 ≤ length out.old }
     ensures { Put (stop_line offset) out.old at result out.new }

@@ -1,6 +1,9 @@
-// What the replay of a recording reports (R14.7); what it means is in specs/, and what is proved of it in proofs/. The code stands in the
-// crate `replayer`.
+// What the replay of a recording reports (R14.7), and a report as numbers (R14.9); what it means is in specs/, and what is proved of it in
+// proofs/. The replay itself stands in the crate `replayer`.
 #![tactic(auto)]
+
+ghost use Rattle.std.specs.Prelude.{◌≡◌};
+ghost use Rattle.recording.specs.Report.{reported};
 
 // Items are counted from 0; `Same` has how many there are.
 #[derive(Clone, Copy)]
@@ -17,4 +20,21 @@ pub enum Report {
 pub struct Reported {
     pub report: u64,
     pub item: u64,
+}
+
+impl From<Report> for Reported {
+    ghost from_gives = { λ x y. y ≡ reported x };
+
+    fn from(report: Report) -> Reported {
+        let (report, item) = match report {
+            Report::Same(n) => (0, n),
+            Report::Differs(n) => (1, n),
+            Report::BadItem(n) => (2, n),
+            Report::BadState => (3, 0),
+        };
+        Reported {
+            report,
+            item: item as u64,
+        }
+    }
 }

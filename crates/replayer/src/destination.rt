@@ -7,14 +7,13 @@ ghost use Rattle.recording.specs.Replay.{held, has_destination, shown, same_byte
 
 use evex::Destination;
 
-fn register_bytes(vectors: &[u8], n: usize) -> [u8; 64]
-    requires { (length vectors.now ≡ 2048) × (n < 32) }
+fn register_bytes(vectors: &[u8; 2048], n: usize) -> [u8; 64]
+    requires { n < 32 }
     ensures { result ≡ register vectors.now n }
 {
     let mut bytes = [0u8; 64];
     let at = n * 64;
-    let end = at + 64;
-    parts::copy_register(&mut bytes, &vectors[at..end]);
+    bytes.copy_from_slice(&vectors[at..at + 64]);
     bytes
 }
 
@@ -27,8 +26,8 @@ fn mask_bytes(masks: &[u64; 8], n: usize) -> [u8; 64]
     bytes
 }
 
-fn held_bytes(vectors: &[u8], masks: &[u64; 8], destination: Destination) -> [u8; 64]
-    requires { (length vectors.now ≡ 2048) × DestinationIn destination }
+fn held_bytes(vectors: &[u8; 2048], masks: &[u64; 8], destination: Destination) -> [u8; 64]
+    requires { DestinationIn destination }
     ensures { result ≡ held vectors.now masks.now destination }
 {
     match destination {
@@ -43,8 +42,7 @@ fn has_destination(number: u32) -> bool
     (number == 0) | (number == 7) | (number == 8)
 }
 
-pub fn shown_bytes(code: &[u8], number: u32, vectors: &[u8], masks: &[u64; 8]) -> [u8; 64]
-    requires { length vectors.now ≡ 2048 }
+pub fn shown_bytes(code: &[u8], number: u32, vectors: &[u8; 2048], masks: &[u64; 8]) -> [u8; 64]
     ensures { result ≡ shown code.now number vectors.now masks.now }
 {
     if !has_destination(number) {
@@ -58,14 +56,8 @@ pub fn shown_bytes(code: &[u8], number: u32, vectors: &[u8], masks: &[u64; 8]) -
     held_bytes(vectors, masks, destination)
 }
 
-// All bytes are compared, so that the loop has no branch.
-pub fn are_other(a: &[u8], b: &[u8]) -> bool
-    requires { (length a.now ≡ 64) × (length b.now ≡ 64) }
+pub fn are_other(a: &[u8; 64], b: &[u8; 64]) -> bool
     ensures { result ≡ not (same_bytes a.now b.now) }
 {
-    let mut other = false;
-    for k in 0..64 {
-        other = other | (a[k] != b[k]);
-    }
-    other
+    a != b
 }

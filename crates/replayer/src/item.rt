@@ -1,54 +1,47 @@
 // An item of a recording (R14.2, R14.3).
-ghost use Rattle.std.specs.Prelude.{◌≡◌, ◌+◌, ◌≤◌, ◌<◌, length};
-ghost use Rattle.recording.specs.Item.{code_count, memory_count};
-ghost use Rattle.replayer.specs.Work.{found};
+ghost use Rattle.std.specs.Prelude.{◌≡◌, true, MatchOption};
+ghost use Rattle.recording.specs.Item.{is_bad};
+ghost use Rattle.replayer.specs.Work.{IsItem};
 
-// How many bytes of code and of memory an item has; or that it is not well formed.
+// The parts of an item that is well formed, and all bytes behind it.
 #[derive(Clone, Copy)]
-pub enum Found {
-    Bad,
-    Item { code: usize, memory: usize },
+pub struct Item<'a> {
+    pub number: u8,
+    pub code: &'a [u8],
+    pub memory: &'a [u8],
+    pub control: u64,
+    pub destination: &'a [u8; 64],
+    pub rest: &'a [u8],
 }
 
-pub fn wide(x: u8) -> usize
-    ensures { (result ≡ x) × (result < 256) }
+// The item that bytes begin with.
+pub fn find(bytes: &[u8]) -> Option<Item<'_>>
+    ensures { MatchOption result (is_bad bytes.now ≡ true) (λ item. IsItem bytes.now item) }
 {
-    x as usize
-}
-
-fn memory_count(bytes: &[u8], code: usize) -> usize
-    requires { (code ≡ code_count bytes.now) × (code + 9 ≤ length bytes.now) }
-    ensures { (result ≡ memory_count bytes.now) × (result < 65536) }
-{
-    let at = 7 + code;
-    let end = 9 + code;
-    parts::read_number(&bytes[at..end]) as usize
-}
-
-// The item that bytes begin with; the least has 77.
-pub fn find(bytes: &[u8]) -> Found
-    ensures { result ≡ found bytes.now }
-{
-    if bytes.len() < 77 {
-        return Found::Bad;
+    let (head, rest) = bytes.split_first_chunk::<7>()?;
+    let (code, rest) = rest.split_at_checked(usize::from(head[6]))?;
+    let (count, rest) = rest.split_first_chunk::<2>()?;
+    let (memory, rest) = rest.split_at_checked(parts::read_number(count) as usize)?;
+    let (control, rest) = rest.split_first_chunk::<4>()?;
+    let (destination, rest) = rest.split_first_chunk::<64>()?;
+    if head[4] != 1 {
+        return None;
     }
-    let code = wide(bytes[6]);
-    if 15 < code {
-        return Found::Bad;
+    if 15 < code.len() {
+        return None;
     }
-    let memory = memory_count(bytes, code);
-    if 4096 < memory {
-        return Found::Bad;
+    if 4096 < memory.len() {
+        return None;
     }
-    let size = 77 + code + memory;
-    if bytes.len() < size {
-        return Found::Bad;
+    if saved::size_at(bytes) != bytes.len() - rest.len() {
+        return None;
     }
-    if saved::size_at(bytes) != size {
-        return Found::Bad;
-    }
-    if bytes[4] != 1 {
-        return Found::Bad;
-    }
-    Found::Item { code, memory }
+    Some(Item {
+        number: head[5],
+        code,
+        memory,
+        control: parts::read_number(control),
+        destination,
+        rest,
+    })
 }

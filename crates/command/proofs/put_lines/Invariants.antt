@@ -3,12 +3,12 @@
 -- Assumes nothing.
 use Prim.Native.Nat.{◌-◌}
 use lib.ListN.{length}
-use Rattle.machine.specs.State.{state_of}
+use Rattle.machine.specs.State.{lent_state}
 use Rattle.command.proofs.Going.{Going}
 use Rattle.command.proofs.put_lines.Given as goal
 
 abbrev pub invariant-loop-offset : goal.invariant-loop-offset
-invariant-loop-offset l = Going l.memory l.code (state_of l.initial.vectors l.initial.masks l.general l.initial.control l.initial.pointer) l.initial.out (state_of l.vectors l.masks l.general l.control l.pointer) l.offset l.at l.out
+invariant-loop-offset l = Going l.memory l.code (lent_state l.initial.machine) l.initial.out (lent_state l.machine) l.offset l.at l.out
 
 abbrev pub decreases-loop-offset : goal.decreases-loop-offset
 decreases-loop-offset l = length l.code - l.offset

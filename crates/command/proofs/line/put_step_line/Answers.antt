@@ -3,25 +3,9 @@
 use Prim.Native.Nat.{◌≤◌}
 use native.Mathlib.Omega.{arith}
 use lib.ListN.{length}
-use Rattle.text.proofs.Digits.{decimal_most, hex_eight}
 use Rattle.text.proofs.Writing.{followed}
 use Rattle.command.specs.Command.{step_line}
 use Rattle.command.proofs.line.put_step_line.Goals as goal
-
-pub put_text-next-requires : goal.put_text-next-requires
-put_text-next-requires c = omega (arith, decimal_most c.args.offset)
-
-pub put_decimal-next-requires-2 : goal.put_decimal-next-requires-2
-put_decimal-next-requires-2 c = omega (arith, decimal_most c.args.offset)
-
-pub put_text-next-requires-2 : goal.put_text-next-requires-2
-put_text-next-requires-2 c = omega (arith, decimal_most c.args.offset, decimal_most c.args.number)
-
-pub put_hex-next-requires : goal.put_hex-next-requires
-put_hex-next-requires c = omega (arith, decimal_most c.args.offset, decimal_most c.args.number)
-
-pub put_text-requires : goal.put_text-requires
-put_text-requires c = omega (arith, decimal_most c.args.offset, decimal_most c.args.number, hex_eight c.args.control)
 
 pub returns : goal.returns
 unfolding step_line

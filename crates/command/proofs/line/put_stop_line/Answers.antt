@@ -3,13 +3,9 @@
 use Prim.Native.Nat.{◌≤◌}
 use native.Mathlib.Omega.{arith}
 use lib.ListN.{length}
-use Rattle.text.proofs.Digits.{decimal_most}
 use Rattle.text.proofs.Writing.{followed}
 use Rattle.command.specs.Command.{stop_line}
 use Rattle.command.proofs.line.put_stop_line.Goals as goal
-
-pub put_text-requires : goal.put_text-requires
-put_text-requires c = omega (arith, decimal_most c.args.offset)
 
 pub returns : goal.returns
 unfolding stop_line

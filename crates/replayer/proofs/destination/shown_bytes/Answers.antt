@@ -23,7 +23,7 @@ returns-in_default c =
 pub held_bytes-requires : goal.held_bytes-requires
 held_bytes-requires c =
     let decode = c.decode-decoded in
-    (c.requires, (bounds c.args.code.now (sym decode.ensures ∙ c.in-Ok.is)).destination)
+    (bounds c.args.code.now (sym decode.ensures ∙ c.in-Ok.is)).destination
 
 pub returns : goal.returns
 returns c =
