@@ -14,8 +14,8 @@ returns c =
     rw (
       c.store_around.ensures,
       c.lower_lanes-bytes.ensures,
-      c.kept_or-high.ensures,
-      c.kept_or-low.ensures,
+      c.either-high.ensures,
+      c.either-low.ensures,
       c.to_le_bytes.ensures,
       c.has-keeps.ensures,
       e,
