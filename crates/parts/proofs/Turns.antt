@@ -1,11 +1,11 @@
 -- A turn of the loops over registers: the part from 8 k to 8 (k + 1) is lent, or it is the part's chunk k.
 -- Assumes nothing.
-use Prim.Native.Nat.{ℕ, zero, suc, ◌+◌, ◌-◌, ◌*◌, ◌≤◌, ◌<◌}
+use Prim.Native.Nat.{ℕ, zero, suc, ◌+◌, ◌-◌, ◌*◌, ◌<◌}
 use mathlib.Core.Path.{◌≡◌, refl, sym, ◌∙◌}
 use mathlib.Core.List.{List, []}
 use native.Mathlib.Nat.{add_comm, mul-zero, mul-suc}
 use native.Mathlib.Omega.{arith}
-use lib.ListN.{length, get_or, take, drop, length-take}
+use lib.ListN.{length, get_or, take, drop}
 use lib.Seq.{drop-drop}
 use Rattle.std.specs.Simd.{first_chunks}
 use Rattle.lists.specs.Lists.{table}
@@ -16,9 +16,6 @@ use Rattle.forms.proofs.Registers.{part_registers}
 
 eight : (k : ℕ) → 8 * (k + 1) - 8 * k ≡ 8
 eight k = omega arith
-
-pub at_most_eight : (k : ℕ) (l : List ℕ) → length (take (8 * (k + 1) - 8 * k) l) ≤ 8
-at_most_eight k l = rw (eight k, length-take 8 l) (omega arith)
 
 pub written_register : (n : ℕ) (values part : List ℕ) (k : ℕ) → k < n → length part ≡ 8 * n
     → big (length (take (8 * (k + 1) - 8 * k) (drop (8 * k) part))) (get_or values k 0) ≡ take (8 * (k + 1) - 8 * k)
