@@ -43,13 +43,9 @@ fn address(a: Address, general: &[u64; 16], next: u64) -> u64
     requires { BaseIn a.base × IndexIn a.index }
     ensures { result ≡ address_from general.now next a }
 {
-    let base = a.base;
-    let index = a.index;
-    let sum = std::num::wrapping_add_u64(
-        base_value(base, general, next),
-        index_value(index, general),
-    );
-    std::num::wrapping_add_u64(sum, wrapped(a.displacement))
+    base_value(a.base, general, next)
+        .wrapping_add(index_value(a.index, general))
+        .wrapping_add(wrapped(a.displacement))
 }
 
 // R5.5: where lane j's word begins.
@@ -60,14 +56,14 @@ pub(crate) fn word_from(at: u64, broadcast: bool, j: usize) -> u64
     if broadcast {
         return at;
     }
-    std::num::wrapping_add_u64(at, (2 * j) as u64)
+    at.wrapping_add((2 * j) as u64)
 }
 
 // One of a word's two bytes is outside a memory of this length.
 fn word_outside(length: u64, at: u64) -> bool
     ensures { result ≡ some (λ a. leb length a) (word_bytes at) }
 {
-    (length <= at) | (length <= std::num::wrapping_add_u64(at, 1))
+    (length <= at) | (length <= at.wrapping_add(1))
 }
 
 // Lane j is on, and reads outside.

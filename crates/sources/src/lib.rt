@@ -27,6 +27,7 @@ fn half_at(bytes: &[u8], at: usize) -> u16
     u16::from_le_bytes([bytes[at], bytes[at + 1]])
 }
 
+// No array type in this file: docs/GUARANTEES.md names the three functions that take the slice from their callers, and may ask no more.
 fn register_halves(vectors: &[u8], n: usize) -> [u16; 32]
     requires { (length vectors.now ≡ 2048) × (n < 32) }
     ensures { result ≡ register_halves every_lane vectors.now n }

@@ -48,6 +48,7 @@ fn finish(machine: &mut Machine<'_>, i: Instruction, on: u32, next: u64, results
         *machine.control = flagged.bits;
         return ended(8);
     }
+    // One field at a time: the borrow checker does not cover two of them in the call.
     let vectors = &mut *machine.vectors;
     let masks = &mut *machine.masks;
     store(vectors, masks, on, i, results);
@@ -67,7 +68,7 @@ fn execute(machine: &mut Machine<'_>, memory: &[u8], i: Instruction) -> Answer
     ensures left { stepped result (lent_state machine.new) ≡ executed memory.now (lent_state machine.old) i }
     ensures same { LendsTheSame machine.old machine.new }
 {
-    let next = std::num::wrapping_add_u64(*machine.pointer, i.size as u64);
+    let next = machine.pointer.wrapping_add(i.size as u64);
     let on = lanes_on(machine.masks, i.mask, i.elements);
     let operand = i.second;
     let second = locate(operand, machine.general, next);
@@ -94,7 +95,8 @@ fn has_its_size(vectors: &[u8; 2048])
     ensures { length vectors.now ≡ 2048 }
 {}
 
-// R4.19, of a state whose vector file has its size: the answer has the number (R4.1) and the length (R4.17).
+// R4.19, of a state whose vector file has its size: the answer has the number (R4.1) and the length (R4.17). No `?`: document 01
+// (docs/RULES.md, section 13) has a step take what decoding answers apart by `let .. else`, and answer by the refusal's number.
 pub fn machine_step(machine: &mut Machine<'_>, code: &[u8], memory: &[u8]) -> Answer
     ensures left { stepped result (lent_state machine.new) ≡ step memory.now (lent_state machine.old) code.now }
     ensures same { LendsTheSame machine.old machine.new }

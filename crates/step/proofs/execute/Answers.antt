@@ -12,7 +12,7 @@ returns-then-is_outside c =
           rw c.ended.ensures
           (refuses c.args.memory.now (lent_state c.args.machine.now) c.args.i
           (is_set c.lanes_on-on.result) c.lanes_on-on.ensures
-          c.wrapping_add_u64-next.result c.wrapping_add_u64-next.ensures.value
+          _ refl
           c.locate-second.result c.locate-second.ensures.0
           (rw (← c.is_outside.ensures) c.if-is_outside.true));
       same = (refl, refl, refl, refl, refl);
@@ -24,7 +24,7 @@ returns c =
       left =
           finishes c.args.memory.now (lent_state c.args.machine.now) c.args.i
           (is_set c.lanes_on-on.result) c.lanes_on-on.ensures
-          c.wrapping_add_u64-next.result c.wrapping_add_u64-next.ensures.value
+          _ refl
           c.locate-second.result c.locate-second.ensures.0
           (rw (← c.is_outside.ensures) c.if-is_outside.false)
           c.all_lanes-results.result

@@ -8,10 +8,8 @@ pub returns : goal.returns
 unfolding address_from
 returns c =
     let d = c.args.a.displacement in
-    let f : mag d < 2 ^ 31 = omega (arith, c.struct_told-1.given) in
+    let f : mag d < 2 ^ 31 = omega arith in
     rw (
-      c.wrapping_add_u64.ensures.value,
-      c.wrapping_add_u64-sum.ensures.value,
       c.wrapped.ensures,
       c.base_value.ensures,
       c.index_value.ensures,
