@@ -130,31 +130,18 @@ fn print(input: &[u8], out: &mut [u8]) -> usize
     if !is_laid_out(input) {
         return put_text(out, 0, b"bad input\n");
     }
-    let mut vectors = [0u8; 2048];
-    let mut masks = [0u64; 8];
-    let mut general = [0u64; 16];
-    let mut control = 0u32;
-    let mut pointer = 0u64;
     let behind = saved::size_at(input);
-    let number = saved::load(
-        &input[0..behind],
-        &mut vectors,
-        &mut masks,
-        &mut general,
-        &mut control,
-        &mut pointer,
-    );
-    if number != 0 {
+    let Ok(mut own) = saved::loaded(&input[0..behind]) else {
         return put_text(out, 0, b"bad input\n");
-    }
+    };
     let code = behind + 2;
     let end = code + code_length(input, behind);
     put_lines(
-        &mut vectors,
-        &mut masks,
-        &general,
-        &mut control,
-        &mut pointer,
+        &mut own.vectors,
+        &mut own.masks,
+        &own.general,
+        &mut own.control,
+        &mut own.pointer,
         &input[code..end],
         &input[end..],
         out,

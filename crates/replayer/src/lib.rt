@@ -112,28 +112,15 @@ pub fn replay(recording: &[u8]) -> Report
     if recording.len() < start {
         return Report::BadState;
     }
-    let mut vectors = [0u8; 2048];
-    let mut masks = [0u64; 8];
-    let mut general = [0u64; 16];
-    let mut control = 0u32;
-    let mut pointer = 0u64;
-    let number = saved::load(
-        &recording[0..start],
-        &mut vectors,
-        &mut masks,
-        &mut general,
-        &mut control,
-        &mut pointer,
-    );
-    if number != 0 {
+    let Ok(mut own) = saved::loaded(&recording[0..start]) else {
         return Report::BadState;
-    }
+    };
     replay_items(
-        &mut vectors,
-        &mut masks,
-        &general,
-        &mut control,
-        &mut pointer,
+        &mut own.vectors,
+        &mut own.masks,
+        &own.general,
+        &mut own.control,
+        &mut own.pointer,
         &recording[start..],
     )
 }

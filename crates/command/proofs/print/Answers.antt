@@ -1,10 +1,9 @@
 -- `command::print` meets its contract: bad by layout, bad by loading, or the lines of the steps.
-use mathlib.Core.Path.{◌≡◌, sym, ◌∙◌}
+use mathlib.Core.Path.{◌≡◌, refl, sym, ◌∙◌}
 use mathlib.Core.Bool.{true}
 use native.Mathlib.Omega.{arith}
 use lib.ListN.{length-take, length-drop}
-use Rattle.lists.specs.Lists.{table}
-use Rattle.forms.specs.Saved.{blank}
+use Rattle.forms.proofs.Refusals.{some_number}
 use Rattle.command.specs.Command.{bad_input, is_laid_out}
 use Rattle.command.proofs.Input.{LaidOut, laid_out, bad_layout, bad_load, good_lines}
 use Rattle.command.proofs.print.Goals.{After-size_at-behind, Else-not-is_laid_out}
@@ -25,16 +24,14 @@ returns-then-not-is_laid_out c =
     rw (bad_layout c.args.input.now (sym is_laid_out.ensures ∙ if1.true))
     c.put_text.ensures
 
-pub slice_bounds-load-end : goal.slice_bounds-load-end
-slice_bounds-load-end c = omega (arith, parts (goal.at.slice_bounds-load-end c).After-size_at-behind)
+pub slice_bounds-loaded-end : goal.slice_bounds-loaded-end
+slice_bounds-loaded-end c = omega (arith, parts (goal.at.slice_bounds-loaded-end c).After-size_at-behind)
 
-pub returns-then-number-ne0 : goal.returns-then-number-ne0
-unfolding bad_input blank table
-returns-then-number-ne0 c =
-    let load = c.load-number in
-    rw (bad_load c.args.input.now (laid (goal.at.returns-then-number-ne0 c).Else-not-is_laid_out) (parts (goal.at.returns-then-number-ne0 c).After-size_at-behind)
-    _ _ load.ensures
-    c.if-number-ne0.true) c.put_text-then-number-ne0.ensures
+pub returns-in_default : goal.returns-in_default
+unfolding bad_input
+returns-in_default c =
+    rw (bad_load c.args.input.now (laid (goal.at.returns-in_default c).Else-not-is_laid_out) (parts (goal.at.returns-in_default c).After-size_at-behind)
+    _ _ c.in_default.ensures (some_number _)) c.put_text-in_default.ensures
 
 pub code_length-requires : goal.code_length-requires
 code_length-requires c = let L = parts (goal.at.code_length-requires c).After-size_at-behind in (L.size, L.head)
@@ -66,9 +63,7 @@ put_lines-requires c =
     )
 
 pub returns : goal.returns
-unfolding blank table
 returns c =
     rw (good_lines c.args.input.now (laid (goal.at.returns c).Else-not-is_laid_out) (parts (goal.at.returns c).After-size_at-behind) _ _
-    c.load-number.ensures
-    c.if-number-ne0.false c.code_length.result c.code_length.ensures.0)
+    c.in-Ok.ensures refl c.code_length.result c.code_length.ensures.0)
     c.put_lines.ensures
