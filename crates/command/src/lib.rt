@@ -9,7 +9,7 @@ ghost use Rattle.command.specs.Command.{lines_from, is_laid_out, printed, room, 
 ghost use Rattle.command.specs.Work.{AreParts};
 
 use line::{put_step_line, put_stop_line};
-use machine::{Machine, Registers};
+use machine::Machine;
 use text::put_text;
 
 mod line;
@@ -64,24 +64,9 @@ fn print(input: &[u8], out: &mut [u8]) -> usize
     let Some(parts) = parts_of(input) else {
         return put_text(out, 0, b"bad input\n");
     };
-    let mut own = Registers {
-        vectors: [0u8; 2048],
-        masks: [0u64; 8],
-        general: [0u64; 16],
-        control: 0,
-        pointer: 0,
-    };
-    let number = saved::load(
-        parts.form,
-        &mut own.vectors,
-        &mut own.masks,
-        &mut own.general,
-        &mut own.control,
-        &mut own.pointer,
-    );
-    if number != 0 {
+    let Ok(mut own) = saved::loaded(parts.form) else {
         return put_text(out, 0, b"bad input\n");
-    }
+    };
     let machine = Machine {
         vectors: &mut own.vectors,
         masks: &mut own.masks,

@@ -12,6 +12,9 @@ use Rattle.lists.proofs.First.{NonZero}
 use Rattle.lists.proofs.Tests.{either}
 use Rattle.machine.specs.State.{State}
 use Rattle.machine.proofs.First.{in_order}
+use Rattle.forms.specs.declared.Refusal.{Refusal}
+use Rattle.forms.specs.declared.Refusal.TheVariants.{Size, HighControlBit, Form}
+use Rattle.forms.specs.Refusal.{refusal_number}
 use Rattle.forms.specs.Version.{no_version}
 use Rattle.forms.specs.Saved.{save_conditions, save, version_number, wrong_size, wrong_length, source_conditions, load_conditions, load}
 use Rattle.forms.specs.Saved.{move_conditions, move}
@@ -19,6 +22,12 @@ use Rattle.forms.specs.Refusals.{SaveRefusals, LoadRefusals, MoveRefusals, NoFor
 
 abbrev no : {n : ℕ} → suc n ≢ 0
 no e = omega arith
+
+-- no refusal has the number 0
+pub some_number : (refusal : Refusal) → refusal_number refusal ≢ 0
+some_number Size = no
+some_number HighControlBit = no
+some_number Form = no
 
 pub save_non_zero : (n : ℕ) (s : State) (target : List ℕ) → NonZero (save_conditions n s target)
 unfolding save_conditions

@@ -1,5 +1,6 @@
 -- docs/RULES.md, R9.2 and R9.8: the vector file in a saved form, whole or packed.
 use Rattle.std.specs.Prelude.{ℕ, zero, suc, ◌+◌, Bool, true, false, cond, not, ◌&&◌, List, [], ◌++◌, eqb, take, drop}
+use Rattle.std.specs.Prelude.{Option, Some, None}
 use Rattle.lists.specs.Lists.{some, table, binary}
 use Rattle.evex.specs.Bits.{is_set}
 use Rattle.machine.specs.State.{register_at}
@@ -82,3 +83,14 @@ packed = record { put = pack; get = unpack; size = packed_size; wrong = has_empt
 unfoldable pub file_form : Bool → FileForm
 file_form true = packed
 file_form false = whole
+
+-- ---- R9.9: what a writer asks first
+
+-- the word of a file, where it is packed
+abbrev pub word_for : Bool → List ℕ → Option ℕ
+word_for packed file = cond packed (Some (presence file)) None
+
+-- how many bytes the file takes, by its word
+abbrev pub size_for : Option ℕ → ℕ
+size_for (Some word) = place_of word 32
+size_for None = 2048

@@ -1,4 +1,5 @@
 -- What a reader opens, in this order.
+pub mod Refusal
 pub mod Version
 pub mod Numbers
 pub mod File

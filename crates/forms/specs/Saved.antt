@@ -1,10 +1,14 @@
 -- docs/RULES.md, R9.4 to R9.6, R9.10, R9.12 and R9.13: saving, loading and moving, with their refusals in order.
 use Rattle.std.specs.Prelude.{ℕ, ◌+◌, Bool, cond, not, List, [], ◌∷◌, ◌++◌, eqb, length, get_or, take, drop}
+use Rattle.std.specs.Prelude.{Option, Some, None, Result, Ok, Err}
 use Rattle.lists.specs.Lists.{first_of}
-use Rattle.machine.specs.State.{State}
+use Rattle.machine.specs.declared.Registers.{Registers}
+use Rattle.machine.specs.State.{State, held_state}
 use Rattle.machine.specs.Step.{wrong_file_size, wrong_vector_file, high_control_bit}
 use Rattle.forms.specs.declared.Version.{Version}
+use Rattle.forms.specs.declared.Refusal.{Refusal}
 use Rattle.forms.specs.Version.{version_of, no_version}
+use Rattle.forms.specs.Refusal.{refusal_number}
 use Rattle.forms.specs.Numbers.{number_in}
 use Rattle.forms.specs.File.{zeros}
 use Rattle.forms.specs.Form.{file_at, file, saved_form, form_size, loaded_state}
@@ -90,6 +94,11 @@ load bytes s =
 unfoldable pub blank : State
 blank = record { vectors = zeros 2048; masks = zeros 8; general = zeros 16; control = 0; pointer = 0 }
 
+-- what a load into a state of its own hands back: that state, or what is wrong first
+abbrev pub own_load : Result Registers Refusal → Load
+own_load (Ok registers) = record { number = 0; state = held_state registers }
+own_load (Err refusal) = record { number = refusal_number refusal; state = blank }
+
 unfoldable pub load_front : List ℕ → Load
 load_front bytes = load (take (size_at bytes) bytes) blank
 
@@ -118,3 +127,7 @@ saved_size n vectors =
 
 unfoldable pub moved_size : ℕ → List ℕ → ℕ
 moved_size n bytes = size_if (first_of (before_target n bytes) 0) (form_size (version_of n) (state_in bytes).vectors)
+
+-- a size where there is one: 0 is the size of no form
+abbrev pub size_of : ℕ → Option ℕ
+size_of n = cond (eqb n 0) None (Some n)

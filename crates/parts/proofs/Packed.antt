@@ -12,7 +12,7 @@ use Rattle.lists.proofs.Tables.{table_member, some_has, some_next}
 use Rattle.evex.specs.Bits.{is_set}
 use Rattle.forms.specs.Numbers.{big, joined}
 use Rattle.forms.specs.File.{present, register, if_present, presence, pack, word_in, place_of, zeros, unpack, packed_size}
-use Rattle.forms.specs.File.{is_empty, has_empty, whole, packed, file_form}
+use Rattle.forms.specs.File.{is_empty, has_empty}
 use Rattle.forms.proofs.Numbers.{length-big}
 use Rattle.forms.proofs.Pieces.{length-joined, joined_none, joined_next, joined_part, sum_within}
 use Rattle.forms.proofs.Words.{word_bit}
@@ -247,13 +247,3 @@ packed_least l h = omega (arith, h)
 
 pub pack_least : (file part : List ℕ) → length file ≡ 2048 → length part ≡ length (pack file) → 4 ≤ length part
 pack_least file part h e = omega (arith, e, pack_size file h)
-
--- ---- a file, whole or packed
-
-pub is_packed : (b : Bool) → b ≡ true → file_form b ≡ packed
-unfolding file_form
-is_packed b e = rw e
-
-pub is_whole : (b : Bool) → b ≡ false → file_form b ≡ whole
-unfolding file_form
-is_whole b e = rw e

@@ -9,7 +9,7 @@ ghost use Rattle.replayer.specs.Work.{IsItem};
 
 use destination::{are_other, shown_bytes};
 use item::{Item, find};
-use machine::{Machine, Registers};
+use machine::Machine;
 use recording::{Report, Reported};
 
 mod destination;
@@ -56,24 +56,9 @@ pub fn replay(recording: &[u8]) -> Report
     let Some((front, items)) = recording.split_at_checked(saved::size_at(recording)) else {
         return Report::BadState;
     };
-    let mut own = Registers {
-        vectors: [0u8; 2048],
-        masks: [0u64; 8],
-        general: [0u64; 16],
-        control: 0,
-        pointer: 0,
-    };
-    let number = saved::load(
-        front,
-        &mut own.vectors,
-        &mut own.masks,
-        &mut own.general,
-        &mut own.control,
-        &mut own.pointer,
-    );
-    if number != 0 {
+    let Ok(mut own) = saved::loaded(front) else {
         return Report::BadState;
-    }
+    };
     let machine = Machine {
         vectors: &mut own.vectors,
         masks: &mut own.masks,

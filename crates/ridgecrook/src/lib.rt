@@ -8,10 +8,12 @@ ghost use Rattle.half.specs.Operations.{half_add, half_subtract, half_multiply, 
 ghost use Rattle.half.specs.Comparison.{half_minimum, half_maximum, half_compare};
 ghost use Rattle.machine.specs.Step.{step};
 ghost use Rattle.machine.specs.State.{state_of, stepped_of};
+ghost use Rattle.forms.specs.Refusal.{answer_number};
 ghost use Rattle.forms.specs.Saved.{save, load, move, saved_size, moved_size};
 ghost use Rattle.recording.specs.Replay.{replay};
 ghost use Rattle.recording.specs.Report.{reported};
 
+use forms::Refusal;
 use half::Mode;
 use machine::Answer;
 use numbers::Rounded;
@@ -105,6 +107,16 @@ pub extern "C" fn ridgecrook_step(
     step::step(vectors, masks, general, control, pointer, code, memory)
 }
 
+// The number of what a save, a load or a move answers: 0, or that of what it is refused for.
+fn number(answer: Result<(), Refusal>) -> u32
+    ensures { result ≡ answer_number answer }
+{
+    match answer {
+        Ok(()) => 0,
+        Err(refusal) => refusal.number(),
+    }
+}
+
 // Version 1.
 #[unsafe(no_mangle)]
 pub extern "C" fn ridgecrook_save(
@@ -118,7 +130,8 @@ pub extern "C" fn ridgecrook_save(
     ensures { record { number = result; target = target.new }
         ≡ save 1 (state_of vectors.now masks.now general.now control pointer) target.old }
 {
-    saved::save(1, vectors, masks, general, control, pointer, target)
+    let answer = saved::save(1, vectors, masks, general, control, pointer, target);
+    number(answer)
 }
 
 #[unsafe(no_mangle)]
@@ -134,14 +147,15 @@ pub extern "C" fn ridgecrook_save_version(
     ensures { record { number = result; target = target.new }
         ≡ save version (state_of vectors.now masks.now general.now control pointer) target.old }
 {
-    saved::save(version, vectors, masks, general, control, pointer, target)
+    let answer = saved::save(version, vectors, masks, general, control, pointer, target);
+    number(answer)
 }
 
 #[unsafe(no_mangle)]
 pub extern "C" fn ridgecrook_saved_size(version: u32, vectors: &[u8]) -> usize
     ensures { result ≡ saved_size version vectors.now }
 {
-    saved::saved_size(version, vectors)
+    saved::saved_size(version, vectors).unwrap_or(0)
 }
 
 #[unsafe(no_mangle)]
@@ -160,21 +174,22 @@ pub extern "C" fn ridgecrook_load(
         ≡ load saved.now
         (state_of vectors.old masks.old general.old control.old pointer.old) }
 {
-    saved::load(saved, vectors, masks, general, control, pointer)
+    let answer = saved::load(saved, vectors, masks, general, control, pointer);
+    number(answer)
 }
 
 #[unsafe(no_mangle)]
 pub extern "C" fn ridgecrook_move(version: u32, source: &[u8], target: &mut [u8]) -> u32
     ensures { record { number = result; target = target.new } ≡ move version source.now target.old }
 {
-    saved::move_form(version, source, target)
+    number(saved::move_form(version, source, target))
 }
 
 #[unsafe(no_mangle)]
 pub extern "C" fn ridgecrook_moved_size(version: u32, source: &[u8]) -> usize
     ensures { result ≡ moved_size version source.now }
 {
-    saved::moved_size(version, source)
+    saved::moved_size(version, source).unwrap_or(0)
 }
 
 #[unsafe(no_mangle)]

@@ -1,18 +1,22 @@
 -- The code of a load: the answer after each test, and what it has read where none refused.
 -- Assumes nothing.
-use Prim.Native.Nat.{ℕ, ◌+◌, ◌-◌, ◌*◌, ◌^◌, ◌≤◌, ◌<◌}
+use Prim.Native.Nat.{ℕ, ◌+◌, ◌-◌, ◌*◌, ◌^◌, ◌≤◌, ◌<◌, min}
 use mathlib.Core.Bool.{Bool, true, false, not}
 use mathlib.Core.Path.{◌≡◌, refl, sym, ap, ◌∙◌}
 use mathlib.Core.List.{List}
 use native.Mathlib.Omega.{arith}
 use borrow.Author.Tests.{ne_eqb, le-leb, lt-leb}
 use lib.Dec.{eqb, lit≤}
-use lib.ListN.{length, take, drop, length-drop}
-use lib.Seq.{take_all, length-take-le}
+use Rattle.std.proofs.Math.Nat.{min_comm}
+use Rattle.std.proofs.lemmas.List.{take_min}
+use lib.ListN.{length, take, drop, length-drop, length-take}
+use lib.Seq.{take_all}
 use Rattle.lists.specs.Lists.{first_of, table, NoneHolds}
 use Rattle.lists.proofs.First.{holds_none}
 use Rattle.machine.specs.State.{State, state_of}
 use Rattle.machine.specs.Step.{wrong_vector_file, high_control_bit}
+use Rattle.forms.specs.declared.Refusal.{Refusal}
+use Rattle.forms.specs.Refusal.{refusal_number}
 use Rattle.forms.specs.Version.{is_packed, no_version}
 use Rattle.forms.specs.Numbers.{value_from, number_in}
 use Rattle.forms.specs.File.{packed_size, file_form}
@@ -22,19 +26,18 @@ use Rattle.forms.specs.Saved.{load_conditions, load}
 use Rattle.lists.proofs.Tests.{same, differ}
 use Rattle.forms.proofs.Apart.{registers_in, file_size}
 use Rattle.forms.proofs.Answered.{load_done, load_refused}
-use Rattle.forms.proofs.Refusals.{source_non_zero, pick}
+use Rattle.forms.proofs.Refusals.{source_non_zero, pick, some_number}
 use Rattle.parts.proofs.Reading.{four_bytes}
 
 -- ---- the length field
 
-pub field_short : (l : List ℕ) {x : ℕ} → length l < 4 → (x ≡ value_from 0 l) × (x < 256 ^ length l) → (4 + x ≡ size_at l) × (4 + x < 2 ^ 33)
-unfolding size_at
-field_short l {x} h e = (rw (take_all 4 l (omega arith), e.0), omega (arith, four_bytes x (length l) e.1 (omega arith)))
-
-pub field_there : (l : List ℕ) {x : ℕ} → 4 ≤ length l → (x ≡ value_from 0 (take 4 l)) × (x < 256 ^ length (take 4 l))
+pub field : (l : List ℕ) {end x : ℕ} → end ≡ min (length l) 4 → (x ≡ value_from 0 (take end l)) × (x < 256 ^ length (take end l))
     → (4 + x ≡ size_at l) × (4 + x < 2 ^ 33)
 unfolding size_at
-field_there l {x} h e = (rw e.0, omega (arith, four_bytes x 4 (rw (length-take-le 4 l h) at e.1) (omega arith)))
+field l {end} {x} m e =
+    let first : take end l ≡ take 4 l = rw (m, min_comm (length l) 4) (take_min 4 l) in
+    let some : length (take end l) ≤ 4 = omega (arith, length-take end l) in
+    (rw e.0 (rw first), omega (arith, four_bytes x (length (take end l)) e.1 some))
 
 -- ---- whether the bytes are a form, after each test
 
@@ -69,9 +72,9 @@ module _ (bytes : List ℕ) where
       by_size (differ (length bytes) (file_at + (file (version_in bytes)).size (drop file_at bytes))
       (λ e. omega (arith, least (is_packed (version_in bytes)) (drop file_at bytes))))
 
-  pub no_such : no_version (version_number bytes) ≡ true → 10 ≡ first_of (source_conditions bytes) 0
+  pub no_such : no_version (version_number bytes) ≡ true → {k : ℕ} → k ≡ 10 → k ≡ first_of (source_conditions bytes) 0
   unfolding source_conditions
-  no_such e = sym (rw e)
+  no_such e h = h ∙ sym (rw e)
 
   pub other_length : {n : ℕ} → n ≡ size_at bytes → (n ≡ length bytes → ⊥) → 10 ≡ first_of (source_conditions bytes) 0
   unfolding source_conditions wrong_length
@@ -124,9 +127,9 @@ module _ (bytes : List ℕ) where
 
 -- ---- what was read of a form that is right
 
-module _ (bytes : List ℕ) {k : ℕ} (answer : k ≡ first_of (source_conditions bytes) 0) (right : k ≡ 0) where
+module _ (bytes : List ℕ) (right : 0 ≡ first_of (source_conditions bytes) 0) where
   pub passed : NoneHolds (source_conditions bytes)
-  passed = holds_none (source_conditions bytes) (source_non_zero bytes) (sym answer ∙ right)
+  passed = holds_none (source_conditions bytes) (source_non_zero bytes) (sym right)
 
   pub whole_length : 213 ≤ length bytes
   whole_length = omega (arith, length-drop file_at bytes, file_size bytes passed, least (is_packed (version_in bytes)) (drop file_at bytes))
@@ -159,13 +162,14 @@ module _ (bytes : List ℕ) (s : State) where
   unfolding load_conditions wrong_vector_file
   wrong_file_lem h = sym (load_refused bytes s 1 refl (rw (ne_eqb _ _ h)))
 
-  module _ (long : length s.vectors ≡ 2048) {k : ℕ} (answer : k ≡ first_of (source_conditions bytes) 0) where
-    by_source : first_of (load_conditions bytes s) 0 ≡ k
+  module _ (long : length s.vectors ≡ 2048) where
+    by_source : {k : ℕ} → k ≡ first_of (source_conditions bytes) 0 → first_of (load_conditions bytes s) 0 ≡ k
     unfolding load_conditions wrong_vector_file
-    by_source = rw long (sym answer)
+    by_source answer = rw long (sym answer)
 
-    pub wrong_form : (k ≡ 0 → ⊥) → record { number = k; state = s } ≡ load bytes s
-    wrong_form h = sym (load_refused bytes s k (ne_eqb k 0 h) by_source)
+    pub wrong_form : (refusal : Refusal) → refusal_number refusal ≡ first_of (source_conditions bytes) 0 → {k : ℕ}
+        → k ≡ refusal_number refusal → record { number = k; state = s } ≡ load bytes s
+    wrong_form refusal answer h = rw h (sym (load_refused bytes s _ (ne_eqb _ _ (some_number refusal)) (by_source answer)))
 
-    pub loaded : {t : State} → k ≡ 0 → t ≡ state_in bytes → record { number = 0; state = t } ≡ load bytes s
-    loaded h e = ap (λ (t : State). record { number = 0; state = t }) e ∙ sym (load_done bytes s (by_source ∙ h))
+    pub loaded : {t : State} → 0 ≡ first_of (source_conditions bytes) 0 → t ≡ state_in bytes → record { number = 0; state = t } ≡ load bytes s
+    loaded answer e = ap (λ (t : State). record { number = 0; state = t }) e ∙ sym (load_done bytes s (by_source answer))

@@ -2,11 +2,13 @@
 -- another, each as the form has it there.
 -- Assumes nothing.
 use Prim.Native.Nat.{ℕ, ◌+◌, ◌-◌, ◌^◌, ◌≤◌, ◌<◌}
-use mathlib.Core.Bool.{Bool, true, false, cond}
+use mathlib.Core.Bool.{Bool, true, false, true≢false}
 use mathlib.Core.List.{List, [], ◌∷◌, ◌++◌}
 use mathlib.Core.Path.{◌≡◌, refl, sym, ap, ◌∙◌}
 use native.Mathlib.Omega.{arith}
 use borrow.Author.Tests.{ne_eqb, eq-eqb, le-leb, lt-leb}
+use Rattle.std.specs.Prelude.{Option, Some, None, Result, Ok, Err, is_some, unwrap_or, ◌≢◌}
+use Rattle.std.specs.Result.{result_ok}
 use lib.Dec.{lit≤}
 use lib.ListN.{length, take, drop}
 use lib.Seq.{take_all}
@@ -16,27 +18,47 @@ use Rattle.forms.specs.declared.Version.{Version}
 use Rattle.forms.specs.declared.Version.TheVariants.{One, Two}
 use Rattle.forms.specs.Version.{version_byte, is_packed, version_of, no_version}
 use Rattle.forms.specs.Numbers.{big, registers}
-use Rattle.forms.specs.File.{presence, place_of, file_form}
+use Rattle.forms.specs.File.{word_for, size_for, file_form}
 use Rattle.forms.specs.Form.{numbers, file_at, file, content, saved_form, form_size}
-use Rattle.forms.specs.Saved.{wrong_target, save_conditions, save, saved_size}
+use Rattle.forms.specs.Saved.{wrong_target, save_conditions, save, saved_size, size_of}
 use Rattle.forms.proofs.Files.{pack_size}
 use Rattle.forms.proofs.Places.{length-numbers, control_there, pointer_there, general_there, masks_there, length-content, length_saved}
 use Rattle.forms.proofs.Places.{length_there, version_there, numbers_there, file_there}
 use Rattle.forms.proofs.Answered.{save_done, save_refused}
 use Rattle.parts.proofs.Written.{Written, nothing, more, lent, all}
 
+-- ---- a result turned into an option
+
+pub was_ok : {T E : Type 0} (r : Result T E) {x : T} → Some x ≡ result_ok r → r ≡ Ok x
+was_ok (Ok y) e = ap (λ o. Ok (unwrap_or o y)) (sym e)
+was_ok (Err y) e = absurd (true≢false (ap is_some e))
+
+pub was_err : {T E : Type 0} (r : Result T E) → None ≡ result_ok r → (y : E) × (r ≡ Err y)
+was_err (Ok y) e = absurd (true≢false (ap is_some (sym e)))
+was_err (Err y) e = (y, refl)
+
 -- ---- the size, by the word
 
-file_size : (packed : Bool) (vectors : List ℕ) {word : ℕ} → length vectors ≡ 2048 → word ≡ cond packed (presence vectors) 0
-    → cond packed (place_of word 32) 2048 ≡ length ((file_form packed).put vectors)
+file_size : (packed : Bool) (vectors : List ℕ) {word : Option ℕ} → length vectors ≡ 2048 → word ≡ word_for packed vectors
+    → size_for word ≡ length ((file_form packed).put vectors)
 unfolding file_form
 file_size true vectors h e = rw e (sym (pack_size vectors h))
-file_size false vectors h e = sym h
+file_size false vectors h e = rw e (sym h)
 
-pub size_by_word : (v : Version) (vectors : List ℕ) {word : ℕ} → length vectors ≡ 2048 → word ≡ cond (is_packed v) (presence vectors) 0
-    → {n : ℕ} → n ≡ file_at + cond (is_packed v) (place_of word 32) 2048 → n ≡ form_size v vectors
+-- a file has a word where it is packed
+pub has_word : (packed : Bool) (vectors : List ℕ) {word : Option ℕ} → word ≡ word_for packed vectors → is_some word ≡ packed
+has_word true vectors e = rw e
+has_word false vectors e = rw e
+
+pub size_by_word : (v : Version) (vectors : List ℕ) {word : Option ℕ} → length vectors ≡ 2048 → word ≡ word_for (is_packed v) vectors
+    → {n : ℕ} → n ≡ file_at + size_for word → n ≡ form_size v vectors
 unfolding form_size
 size_by_word v vectors h e k = k ∙ ap (λ (n : ℕ). file_at + n) (file_size (is_packed v) vectors h e)
+
+-- a form has a size other than 0
+pub some_size : (v : Version) (vectors : List ℕ) {k n : ℕ} → k ≡ n → k ≡ form_size v vectors → Some k ≡ size_of n
+unfolding form_size
+some_size v vectors {k} {n} e h = let some : n ≢ 0 = omega arith in rw (ne_eqb n 0 some, e)
 
 -- ---- the answer after each test
 
@@ -48,9 +70,9 @@ pub record Shown (n : ℕ) (vectors : List ℕ) (v : Version) (k : ℕ) : Type 0
   pub size : k ≡ form_size v vectors
 
 module _ (n : ℕ) (s : State) (target : List ℕ) where
-  pub no_such : no_version n ≡ true → record { number = 10; target = target } ≡ save n s target
+  pub no_such : no_version n ≡ true → {k : ℕ} → k ≡ 10 → record { number = k; target = target } ≡ save n s target
   unfolding save_conditions
-  no_such e = sym (save_refused n s target 10 refl (rw e))
+  no_such e h = rw h (sym (save_refused n s target 10 refl (rw e)))
 
   pub wrong_file_lem : no_version n ≡ false → (length s.vectors ≡ 2048 → ⊥) → record { number = 1; target = target } ≡ save n s target
   unfolding save_conditions wrong_vector_file
@@ -75,17 +97,18 @@ module _ (n : ℕ) (s : State) (target : List ℕ) where
 
 -- the size that is needed, by the same tests
 module _ (n : ℕ) (vectors : List ℕ) where
-  pub size_no_such : no_version n ≡ true → 0 ≡ saved_size n vectors
+  pub size_no_such : no_version n ≡ true → None ≡ size_of (saved_size n vectors)
   unfolding saved_size
   size_no_such e = rw e
 
-  pub size_wrong_file : no_version n ≡ false → (length vectors ≡ 2048 → ⊥) → 0 ≡ saved_size n vectors
+  pub size_wrong_file : no_version n ≡ false → (length vectors ≡ 2048 → ⊥) → None ≡ size_of (saved_size n vectors)
   unfolding saved_size
   size_wrong_file e h = rw (e, ne_eqb _ _ h)
 
-  pub size_there : no_version n ≡ false → length vectors ≡ 2048 → {k : ℕ} → k ≡ form_size (version_of n) vectors → k ≡ saved_size n vectors
+  pub size_there : no_version n ≡ false → length vectors ≡ 2048 → {k : ℕ} → k ≡ form_size (version_of n) vectors
+      → Some k ≡ size_of (saved_size n vectors)
   unfolding saved_size
-  size_there e h k = k ∙ rw (e, h)
+  size_there e h k = some_size (version_of n) vectors (k ∙ rw (e, h)) k
 
 -- ---- what was written
 

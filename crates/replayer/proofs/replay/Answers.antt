@@ -1,20 +1,17 @@
 -- `replayer::replay` meets its contract: the saved form is cut, does not load, or loads (Loading.antt).
 -- Assumes nothing.
-use Rattle.lists.specs.Lists.{table}
-use Rattle.forms.specs.Saved.{blank}
+use mathlib.Core.Path.{refl}
+use Rattle.forms.proofs.Refusals.{some_number}
 use Rattle.replayer.proofs.Loading.{cut, not_loaded, replays}
 use Rattle.replayer.proofs.replay.Goals as goal
 
 pub returns-in_default : goal.returns-in_default
 returns-in_default c = cut c.args.recording.now c.size_at.ensures.0 c.in_default.ensures.cases
 
-pub returns-then-number-ne0 : goal.returns-then-number-ne0
-unfolding blank table
-returns-then-number-ne0 c =
-    not_loaded c.args.recording.now c.size_at.ensures.0 c.in-Some.ensures.cases c.load-number.ensures c.if-number-ne0.true
+pub returns-in_default-loaded : goal.returns-in_default-loaded
+returns-in_default-loaded c =
+    not_loaded c.args.recording.now c.size_at.ensures.0 c.in-Some.ensures.cases c.in_default-loaded.ensures (some_number _)
 
 pub returns : goal.returns
-unfolding blank table
 returns c =
-    replays c.args.recording.now c.size_at.ensures.0 c.in-Some.ensures.cases c.load-number.ensures c.if-number-ne0.false
-    c.replay_items.ensures
+    replays c.args.recording.now c.size_at.ensures.0 c.in-Some.ensures.cases c.in-Ok.ensures refl c.replay_items.ensures

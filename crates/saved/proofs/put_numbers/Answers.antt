@@ -1,4 +1,5 @@
 -- `saved::put_numbers` meets its contract: the four parts are a law of Saving.antt.
+use mathlib.Core.Path.{◌∙◌}
 use native.Mathlib.Omega.{arith}
 use Rattle.saved.proofs.Saving.{numbers_written}
 use Rattle.saved.proofs.put_numbers.Goals as goal
@@ -15,7 +16,7 @@ returns c =
     (omega arith)
     (omega arith)
     c.requires
-    put_number.ensures
+    (put_number.ensures ∙ rw c.from.ensures)
     put_number2.ensures
     put_registers.ensures
     c.put_registers-2.ensures

@@ -5,5 +5,5 @@ use Rattle.saved.proofs.size_with.Goals as goal
 
 pub returns : goal.returns
 returns c =
-    size_by_word c.args.version c.args.vectors.now c.requires
+    size_by_word c.args.version c.args.vectors.now c.told-vectors
     (c.file_word.ensures ∙ rw c.is_packed.ensures) c.form_size.ensures
