@@ -4,7 +4,7 @@
 use Prim.Native.Nat.{ℕ, ◌+◌, ◌-◌, ◌^◌, ◌≤◌, ◌<◌}
 use mathlib.Core.Bool.{Bool, true, false, true≢false}
 use mathlib.Core.List.{List, [], ◌∷◌, ◌++◌}
-use mathlib.Core.Path.{◌≡◌, refl, sym, ap, ◌∙◌}
+use mathlib.Core.Path.{◌≡◌, refl, sym, ap, subst, ◌∙◌}
 use native.Mathlib.Omega.{arith}
 use borrow.Author.Tests.{ne_eqb, eq-eqb, le-leb, lt-leb}
 use Rattle.std.specs.Prelude.{Option, Some, None, Result, Ok, Err, is_some, unwrap_or, ◌≢◌}
@@ -27,15 +27,15 @@ use Rattle.forms.proofs.Places.{length_there, version_there, numbers_there, file
 use Rattle.forms.proofs.Answered.{save_done, save_refused}
 use Rattle.parts.proofs.Written.{Written, nothing, more, lent, all}
 
--- ---- a result turned into an option
+-- ---- what holds of a result holds of the variant that its option tells
 
-pub was_ok : {T E : Type 0} (r : Result T E) {x : T} → Some x ≡ result_ok r → r ≡ Ok x
-was_ok (Ok y) e = ap (λ o. Ok (unwrap_or o y)) (sym e)
-was_ok (Err y) e = absurd (true≢false (ap is_some e))
+pub at_ok : {T E : Type 0} (r : Result T E) {x : T} → Some x ≡ result_ok r → (P : Result T E → Type 0) → P r → P (Ok x)
+at_ok (Ok y) {x} e P h = subst (λ o. P (Ok (unwrap_or o y))) (sym e) h
+at_ok (Err y) e P h = absurd (true≢false (ap is_some e))
 
-pub was_err : {T E : Type 0} (r : Result T E) → None ≡ result_ok r → (y : E) × (r ≡ Err y)
-was_err (Ok y) e = absurd (true≢false (ap is_some (sym e)))
-was_err (Err y) e = (y, refl)
+pub at_err : {T E : Type 0} (r : Result T E) → None ≡ result_ok r → (P : Result T E → Type 0) → P r → (y : E) × P (Err y)
+at_err (Ok y) e P h = absurd (true≢false (ap is_some (sym e)))
+at_err (Err y) e P h = (y, h)
 
 -- ---- the size, by the word
 

@@ -1,5 +1,5 @@
 -- `Version::try_from` meets its contract: the definitions' own tests.
-use mathlib.Core.Path.{refl}
+use mathlib.Core.Path.{refl, sym, ap}
 use native.Mathlib.Omega.{arith}
 use Rattle.std.specs.Prelude.{◌≢◌}
 use borrow.Author.Tests.{ne_eqb}
@@ -8,11 +8,11 @@ use Rattle.forms.proofs.VersionTryFromU32.try_from.Goals as goal
 
 pub returns-in-1 : goal.returns-in-1
 unfolding version_of no_version
-returns-in-1 c = (rw c.in-1.is, rw c.in-1.is)
+returns-in-1 c = (ap no_version c.in-1.is, sym (ap version_of c.in-1.is))
 
 pub returns-in-2 : goal.returns-in-2
 unfolding version_of no_version
-returns-in-2 c = (rw c.in-2.is, rw c.in-2.is)
+returns-in-2 c = (ap no_version c.in-2.is, sym (ap version_of c.in-2.is))
 
 pub returns-in_default : goal.returns-in_default
 unfolding version_of no_version
