@@ -26,16 +26,17 @@ abbrev pub state_of : List ℕ → List ℕ → List ℕ → ℕ → ℕ → Sta
 state_of vectors masks general control pointer =
     record { vectors = vectors; masks = masks; general = general; control = control; pointer = pointer }
 
--- the state that a struct of the code holds, and the one that a struct lends
-abbrev pub held_state : Registers → State
-held_state r = state_of r.vectors r.masks r.general r.control r.pointer
-
-abbrev pub lent_state : Machine → State
-lent_state m = state_of m.vectors.now m.masks.now m.general.now m.control.now m.pointer.now
-
 abbrev pub stepped_of : Answer → List ℕ → List ℕ → List ℕ → ℕ → ℕ → Stepped
 stepped_of answer vectors masks general control pointer =
     record { answer = answer; state = state_of vectors masks general control pointer }
+
+-- R1.1: the state that a struct of the code holds
+abbrev pub held_state : Registers → State
+held_state r = state_of r.vectors r.masks r.general r.control r.pointer
+
+-- R1.1: and the one that a struct lends
+abbrev pub lent_state : Machine → State
+lent_state m = state_of m.vectors.now m.masks.now m.general.now m.control.now m.pointer.now
 
 -- R1.2: the byte of the vector file at which register n begins
 abbrev pub register_at : ℕ → ℕ
