@@ -1,5 +1,6 @@
 // The vector file in a saved form: whole (R9.2) or packed (R9.8). A trait with an impl for either is no plainer than these tests of one flag:
-// the callers read the version, and so the flag, from bytes.
+// the callers read the version, and so the flag, from bytes. Vector files are lent as slices: docs/GUARANTEES.md names these functions, and an
+// array would ask more of who calls them.
 #![tactic(auto, unfolding(forms::specs::File::file_form))]
 
 ghost use Rattle.std.specs.Prelude.{◌≡◌, ◌≤◌, length, is_some};
@@ -9,7 +10,8 @@ use crate::copy;
 use crate::packing::{has_empty, put_packed, read_packed, size_by, size_in, word_of};
 
 // The word of a file, which is found once and then goes with it; a whole file has none.
-pub fn file_word(packed: bool, vectors: &[u8; 2048]) -> Option<u32>
+pub fn file_word(packed: bool, vectors: &[u8]) -> Option<u32>
+    requires { length vectors.now ≡ 2048 }
     ensures { result ≡ word_for packed vectors.now }
 {
     if packed { Some(word_of(vectors)) } else { None }
@@ -26,8 +28,9 @@ pub fn file_size_by(word: Option<u32>) -> usize
 }
 
 // A file over a part, by its word.
-pub fn put_file(part: &mut [u8], word: Option<u32>, vectors: &[u8; 2048])
-    requires { (word ≡ word_for (is_some word) vectors.now)
+pub fn put_file(part: &mut [u8], word: Option<u32>, vectors: &[u8])
+    requires { (length vectors.now ≡ 2048)
+        × (word ≡ word_for (is_some word) vectors.now)
         × (length part.old ≡ length ((file_form (is_some word)).put vectors.now)) }
     ensures { part.new ≡ (file_form (is_some word)).put vectors.now }
 {
@@ -54,8 +57,8 @@ pub fn is_wrong(packed: bool, part: &[u8]) -> bool
 }
 
 // The file that stands in a part.
-pub fn read_file(packed: bool, part: &[u8], vectors: &mut [u8; 2048])
-    requires { length part.now ≡ (file_form packed).size part.now }
+pub fn read_file(packed: bool, part: &[u8], vectors: &mut [u8])
+    requires { (length vectors.old ≡ 2048) × (length part.now ≡ (file_form packed).size part.now) }
     ensures { vectors.new ≡ (file_form packed).get part.now }
 {
     if packed {

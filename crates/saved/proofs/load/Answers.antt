@@ -1,4 +1,5 @@
 -- `saved::load` meets its contract: each `return` is a law of Loading.antt.
+use Rattle.std.proofs.Common.{rules}
 use Prim.Native.Nat.{◌≤◌}
 use mathlib.Core.Path.{◌∙◌}
 use native.Mathlib.Omega.{arith}
@@ -39,8 +40,10 @@ pub slice_bounds-read_file-start : goal.slice_bounds-read_file-start
 slice_bounds-read_file-start c = omega (arith, enough (goal.at.slice_bounds-read_file-start c).In_ok-version)
 
 pub read_file-requires : goal.read_file-requires
-read_file-requires c =
-    room_lent c.args.saved.now c.in_ok-version.ensures.number (c.is_packed.ensures ∙ rw c.in_ok-version.ensures.version)
+read_file-requires c = (
+  search rules,
+  room_lent c.args.saved.now c.in_ok-version.ensures.number (c.is_packed.ensures ∙ rw c.in_ok-version.ensures.version),
+)
 
 pub returns : goal.returns
 returns c =

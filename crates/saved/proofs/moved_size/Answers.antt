@@ -56,7 +56,7 @@ slice_bounds-read_file-start c =
 pub read_file-requires : goal.read_file-requires
 read_file-requires c =
     let at = goal.at.read_file-requires c in
-    room_lent c.args.source.now (right at.In_ok-held) (c.is_packed-2.ensures ∙ rw (held at.In_ok-held))
+    (omega arith, room_lent c.args.source.now (right at.In_ok-held) (c.is_packed-2.ensures ∙ rw (held at.In_ok-held)))
 
 pub returns : goal.returns
 returns c =

@@ -1,4 +1,5 @@
 -- `saved::put_form` meets its contract: the four parts are a law of Saving.antt.
+use Rattle.std.proofs.Common.{rules}
 use Prim.Native.Nat.{◌≤◌}
 use mathlib.Core.Path.{◌∙◌}
 use native.Mathlib.Omega.{arith}
@@ -24,6 +25,7 @@ pub put_file-requires : goal.put_file-requires
 put_file-requires c =
     let is = has_word (is_packed c.args.version) c.args.vectors.now c.requires.0 in
     let room = file-length c.args.version c.args.vectors.now c.args.target.now c.requires.1 in (
+      search rules,
       c.requires.0 ∙ rw is,
       rw is (omega (arith, enough (goal.at.put_file-requires c).Start, room)),
     )
