@@ -3,6 +3,9 @@ use Rattle.std.specs.Prelude.{ℕ, Result, Ok, Err}
 use Rattle.forms.specs.declared.Refusal.{Refusal}
 use Rattle.forms.specs.declared.Refusal.TheVariants.{Size, HighControlBit, Form}
 
+-- ---- R4.1, R9.4, R9.5
+
+-- the number of a refusal
 abbrev pub refusal_number : Refusal → ℕ
 refusal_number Size = 1
 refusal_number HighControlBit = 2

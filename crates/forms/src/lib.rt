@@ -6,20 +6,21 @@ ghost use Rattle.std.specs.Prelude.{◌≡◌};
 ghost use Rattle.forms.specs.Version.{version_byte, is_packed, IsVersion};
 ghost use Rattle.forms.specs.Refusal.{refusal_number};
 
-#[derive(Clone, Copy, PartialEq, Eq)]
+#[derive(Clone, Copy)]
 pub enum Version {
     One,
     Two,
 }
 
 // R4.1, R9.4 to R9.6: a vector file or a target of another size, a control word of more than 16 bits, or no version and no form.
-#[derive(Clone, Copy, PartialEq, Eq)]
+#[derive(Clone, Copy)]
 pub enum Refusal {
     Size,
     HighControlBit,
     Form,
 }
 
+// R9.1: the version that has a number.
 impl TryFrom<u32> for Version {
     type Error = Refusal;
 
@@ -34,6 +35,7 @@ impl TryFrom<u32> for Version {
     }
 }
 
+// R9.1: its number, which is byte 4 of the form.
 impl From<Version> for u8 {
     ghost from_gives = { λ version byte. byte ≡ version_byte version };
 
@@ -46,14 +48,19 @@ impl From<Version> for u8 {
 }
 
 impl Version {
+    // R9.8: whether its vector file is packed.
     pub fn is_packed(self) -> bool
         ensures { result ≡ is_packed self }
     {
-        self == Version::Two
+        match self {
+            Version::One => false,
+            Version::Two => true,
+        }
     }
 }
 
 impl Refusal {
+    // R4.1: its number.
     pub fn number(self) -> u32
         ensures { result ≡ refusal_number self }
     {

@@ -38,7 +38,7 @@ fn form_size(word: Option<u32>) -> usize
     FILE_AT + file::file_size_by(word)
 }
 
-// A state's form over a target of its size, by its file's word.
+// A state's form over a target of its size, by its file's word. The state comes part by part, here and in `save` and `load`: as C lends it.
 fn put_form(
     target: &mut [u8],
     version: Version,
