@@ -21,6 +21,7 @@ fn put_lines(mut machine: Machine<'_>, code: &[u8], memory: &[u8], out: &mut [u8
 {
     let mut offset = 0;
     let mut at = 0;
+    // No index: the offset moves by an instruction's length, and is printed (R10.4).
     while offset < code.len() {
         let answer = step::machine_step(&mut machine, &code[offset..], memory);
         at = put_step_line(out, at, offset, answer.number, *machine.control);

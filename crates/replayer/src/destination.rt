@@ -36,6 +36,7 @@ fn held_bytes(vectors: &[u8; 2048], masks: &[u64; 8], destination: Destination) 
     }
 }
 
+// By the answer's number, as a step hands it to C (R4.1).
 fn has_destination(number: u32) -> bool
     ensures { result ≡ has_destination number }
 {
@@ -56,6 +57,7 @@ pub fn shown_bytes(code: &[u8], number: u32, vectors: &[u8; 2048], masks: &[u64;
     held_bytes(vectors, masks, destination)
 }
 
+// R14.6, by the library's test of arrays.
 pub fn are_other(a: &[u8; 64], b: &[u8; 64]) -> bool
     ensures { result ≡ not (same_bytes a.now b.now) }
 {
