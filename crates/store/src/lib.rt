@@ -54,9 +54,7 @@ fn store_lanes(register: &mut [u8], kept: u32, halves: [u16; 32])
     requires { length register.old ≡ 64 }
     ensures { register.new ≡ new_register (kept_or (is_set kept) 0) register.old halves }
 {
-    let Some(register) = register.as_mut_array::<64>() else {
-        return;
-    };
+    let register = register.as_mut_array::<64>().unwrap();
     if kept == 0 {
         store_all(register, halves);
         return;
@@ -131,9 +129,7 @@ pub fn store(vectors: &mut [u8], masks: &mut [u64; 8], on: u32, i: Instruction, 
     ensures { (vectors.new ≡ vectors_stored (is_set on) i results vectors.old i.destination)
         × (masks.new ≡ masks_stored results masks.old i.destination) }
 {
-    let Some(vectors) = vectors.as_mut_array::<2048>() else {
-        return;
-    };
+    let vectors = vectors.as_mut_array::<2048>().unwrap();
     let destination = i.destination;
     match destination {
         Destination::Vector(n) => store_vector(vectors, on, i, n, results),
