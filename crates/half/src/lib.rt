@@ -17,7 +17,8 @@ pub mod root;
 mod rounding;
 pub mod sum;
 
-// The rounding modes (R6.4), in the order of their numbers.
+// The rounding modes (R6.4), in the order of their numbers. Mode and mask of UE stay two parameters, as the definitions take them
+// (specs/Operations.antt): the short ways need the mode alone.
 #[derive(Clone, Copy, PartialEq, Eq)]
 pub enum Mode {
     Nearest,

@@ -25,7 +25,7 @@ fn total(like: bool, x: u64, y: u64) -> u64
     if like { l + s } else { l - s }
 }
 
-// The sign of the larger one.
+// The sign of the larger one. Signs and magnitudes stay apart, as `exact_sum` takes them.
 fn sign_of_larger(sx: bool, x: u64, sy: bool, y: u64) -> bool
     ensures { result ≡ sum_sign sx x sy y }
 {

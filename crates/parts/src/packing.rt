@@ -56,13 +56,13 @@ fn size_of(word: u32, i: usize) -> usize
     0
 }
 
-// How many bytes a packed file has, by its word.
+// How many bytes a packed file has, by its word: a loop over the numbers of bits, as in the two below, where no slice is walked.
 pub(crate) fn size_by(word: u32) -> usize
     ensures { (result ≡ place_of word 32) × (result ≤ 2052) }
 {
     let mut at = 4;
     for i in 0..32 {
-        at = at + size_of(word, i);
+        at += size_of(word, i);
     }
     at
 }
@@ -142,7 +142,7 @@ pub(crate) fn has_empty(part: &[u8]) -> bool
         if is_empty(word, i, part, at) {
             return true;
         }
-        at = at + size_of(word, i);
+        at += size_of(word, i);
     }
     false
 }

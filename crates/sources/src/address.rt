@@ -48,7 +48,7 @@ fn address(a: Address, general: &[u64; 16], next: u64) -> u64
         .wrapping_add(wrapped(a.displacement))
 }
 
-// R5.5: where lane j's word begins.
+// R5.5: where lane j's word begins. Address and broadcast stay two parameters, as the definition takes them.
 pub(crate) fn word_from(at: u64, broadcast: bool, j: usize) -> u64
     requires { j < 32 }
     ensures { result ≡ word_from at broadcast j }
@@ -103,6 +103,7 @@ fn words_outside(on: u32, length: u64, at: u64, broadcast: bool) -> bool
     if words_inside(length, at, words_below(broadcast, end)) {
         return false;
     }
+    // By the lane's number, and all of them, as `any` would branch at each.
     let mut found = false;
     for j in 0..end {
         found |= lane_outside(on, length, at, broadcast, j);

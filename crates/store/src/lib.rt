@@ -27,7 +27,8 @@ fn store_half(register: &mut [u8; 64], half: u16, j: usize)
     register[at + 1] = high;
 }
 
-// Writes every lane.
+// Writes every lane. This loop and the next go by the lane's number, which is that of its half, its mask bit and its two bytes: zipped slices
+// are no plainer.
 fn store_all(register: &mut [u8; 64], halves: [u16; 32])
     ensures { register.new ≡ new_register (λ j. computed) register.old halves }
 {
@@ -49,7 +50,8 @@ fn store_some(register: &mut [u8; 64], kept: u32, halves: [u16; 32])
     }
 }
 
-// The register lent is number 0 of the contract, as if it were a file by itself.
+// The register lent is number 0 of the contract, as if it were a file by itself. It is a range of the file, and so a slice: of what a range
+// holds after `as_mut_array` no proof knows.
 fn store_lanes(register: &mut [u8], kept: u32, halves: [u16; 32])
     requires { length register.old ≡ 64 }
     ensures { register.new ≡ new_register (kept_or (is_set kept) 0) register.old halves }
@@ -97,7 +99,7 @@ fn store_vector(vectors: &mut [u8; 2048], on: u32, i: Instruction, n: usize, res
     store_packed(vectors, n, kept, halves);
 }
 
-// The lowest bits of sixteen lanes, in 16 bits, as vector instructions take them.
+// The lowest bits of sixteen lanes, in 16 bits, as vector instructions take them. By the lane's number, which is also its bit's.
 fn sixteen_bits(halves: [u16; 32], from: usize) -> u16
     requires { from ≤ 16 }
     ensures { result ≡ binary (table 16 (λ j. get_or halves (from + j) 0 % 2)) }

@@ -34,7 +34,7 @@ fn lower_lanes(vectors: &[u8; 2048], n: usize) -> [u8; 64]
     bytes
 }
 
-// Writes a register, and then the two bytes of its lane 0: the 64 are copied in one piece.
+// Writes a register, a range of the file and so a slice, and then the two bytes of its lane 0: the 64 are copied in one piece.
 fn store_around(register: &mut [u8], bytes: [u8; 64], low: u8, high: u8)
     requires { length register.old ≡ 64 }
     ensures { register.new ≡ set (set bytes 0 low) 1 high }

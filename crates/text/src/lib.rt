@@ -1,4 +1,6 @@
 // Texts, and numbers as text (R10.4). Each function puts its text into a lent buffer at a place, and returns the place behind it.
+// No `Display`: `fmt::Write` promises a text on Ok alone, where `Wrote` (R10.6, R14.10) promises it always. Buffer and place stay two
+// parameters: each clause would name both parts of a struct, old and new.
 #![tactic(auto)]
 
 ghost use Rattle.std.specs.Prelude.{◌≡◌, ◌+◌, ◌≤◌, ◌<◌, length};
@@ -27,6 +29,7 @@ pub fn put_decimal(out: &mut [u8], at: usize, x: u64) -> usize
     last + 1
 }
 
+// `char::from_digit` gives an Option and a char: no plainer.
 fn hex_digit(x: u32) -> u8
     requires { x < 16 }
     ensures { result ≡ hex_digit x }
