@@ -29,7 +29,8 @@ stays bytes t refusal e =
     let kept : (load bytes t).state ≡ t = (load_refusals bytes t).1 (λ z. some_number refusal (ap (λ (l : Load). l.number) e ∙ z)) in
     ap (λ (s : State). record { number = refusal_number refusal; state = s }) (sym (ap (λ (l : Load). l.state) e ∙ kept)) ∙ e
 
-pub no_such : (n : ℕ) (bytes target : List ℕ) → no_version n ≡ true → {k : ℕ} → k ≡ 10 → record { number = k; target = target } ≡ move n bytes target
+pub no_such : (n : ℕ) (bytes target : List ℕ) → no_version n ≡ true → {k : ℕ} → k ≡ 10
+    → record { number = k; target = target } ≡ move n bytes target
 unfolding move_conditions
 no_such n bytes target e h = rw h (sym (move_refused n bytes target 10 refl (rw e)))
 
@@ -61,7 +62,8 @@ module _ (n : ℕ) (bytes : List ℕ) where
   size_no_such e = rw e
 
   module _ (asked : no_version n ≡ false) where
-    pub size_wrong : (refusal : Refusal) → refusal_number refusal ≡ first_of (source_conditions bytes) 0 → None ≡ size_of (moved_size n bytes)
+    pub size_wrong : (refusal : Refusal) → refusal_number refusal ≡ first_of (source_conditions bytes) 0
+        → None ≡ size_of (moved_size n bytes)
     unfolding moved_size
     size_wrong refusal h = rw (asked, ← h, ne_eqb (refusal_number refusal) 0 (some_number refusal))
 
@@ -72,7 +74,8 @@ module _ (n : ℕ) (bytes : List ℕ) where
       size_there v e = some_size (version_of n) _ (e ∙ rw (asked, ← right, v)) e
 
       -- of a whole file
-      pub size_whole : {r : ℕ} {v : Version} → v ≡ version_of n → false ≡ is_packed v → r ≡ file_at + 2048 → Some r ≡ size_of (moved_size n bytes)
+      pub size_whole : {r : ℕ} {v : Version} → v ≡ version_of n → false ≡ is_packed v → r ≡ file_at + 2048
+          → Some r ≡ size_of (moved_size n bytes)
       size_whole {r} {v} is flat e =
           size_there refl
           (size_by_word v (state_in bytes).vectors {word = None} (vectors_long bytes (passed bytes right)) (rw (sym flat)) e ∙ rw is)

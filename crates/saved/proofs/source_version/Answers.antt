@@ -14,7 +14,8 @@ packs c = c.is_packed-packed.ensures ∙ rw (c.in_ok-version.ensures.1, c.from.e
 
 passed : (c : Else-is_wrong) → Right c.args.saved.now
 passed c =
-    right _ (c.is_packed-packed.ensures ∙ rw (c.in_ok-version.ensures.1, c.from.ensures)) (ap no_version (sym c.from.ensures) ∙ c.in_ok-version.ensures.0) c.file_size_in.ensures.0
+    right _ (c.is_packed-packed.ensures ∙ rw (c.in_ok-version.ensures.1, c.from.ensures))
+    (ap no_version (sym c.from.ensures) ∙ c.in_ok-version.ensures.0) c.file_size_in.ensures.0
     c.if-saved-file_size_in.false c.size_at.ensures.0 c.if-size_at-saved.false c.is_wrong.ensures c.if-is_wrong.false
 
 pub returns-then-saved-clause-number : goal.returns-then-saved-clause-number
