@@ -92,7 +92,7 @@ pub fn is_large(m: u64, e: u32) -> bool
     requires { e < 64 }
     ensures { result ≡ leb (2 ^ 43) (m * 2 ^ e) }
 {
-    (m != 0) & (u64::leading_zeros(m) <= e + 20)
+    (m != 0) & (m.leading_zeros() <= e + 20)
 }
 
 // m * 2^e rounded, where it is large.
@@ -100,7 +100,7 @@ pub fn round_large(mode: Mode, neg: bool, m: u64, e: u32) -> Outcome
     requires { (2 ^ 43 ≤ m * 2 ^ e) × (e < 80) }
     ensures { (unmasked_ue : Bool) → result ≡ rounded_half mode unmasked_ue neg (ratio (m * 2 ^ e) (2 ^ 57)) }
 {
-    let zeros = u64::leading_zeros(m);
+    let zeros = m.leading_zeros();
     let z = rounding::place_of(m << zeros, 52);
     packed(mode, neg, z, e + 20 - zeros)
 }

@@ -71,7 +71,7 @@ fn half_exponent(x: u64) -> u32
     requires { 0 < x }
     ensures { result ≡ (size x - 1) / 2 }
 {
-    (63 - u64::leading_zeros(x)) / 2
+    (63 - x.leading_zeros()) / 2
 }
 
 // The root of a finite half above 0. Its magnitude is brought to 23 or 24 digits, so that the root has 12, and 13 with a bit for the

@@ -80,7 +80,7 @@ pub fn place_of(t: u64, k: u32) -> u64
 fn dropped(t: u64) -> u32
     ensures { result ≡ size t - 14 }
 {
-    let zeros = u64::leading_zeros(t);
+    let zeros = t.leading_zeros();
     if zeros < 50 { 50 - zeros } else { 0 }
 }
 

@@ -22,6 +22,10 @@ use Rattle.forms.proofs.Trips.{move_is_save_after_load}
 use Rattle.saved.proofs.Saving.{size_by_word, some_size}
 use Rattle.saved.proofs.Loading.{passed}
 
+-- a load into a state that is blank
+pub from_blank : (bytes : List ℕ) {t : State} → t ≡ blank → {l : Load} → l ≡ load bytes t → l ≡ load bytes blank
+from_blank bytes h e = e ∙ ap (load bytes) h
+
 -- a load that is refused leaves what it was to load into
 pub stays : (bytes : List ℕ) (t : State) (refusal : Refusal) {s : State} → record { number = refusal_number refusal; state = s } ≡ load bytes t
     → record { number = refusal_number refusal; state = t } ≡ load bytes t

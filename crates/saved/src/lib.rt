@@ -3,7 +3,7 @@
 
 ghost use Rattle.std.specs.Prelude.{◌≡◌, ◌+◌, ◌^◌, ◌<◌, IfOk, length};
 ghost use Rattle.lists.specs.Lists.{first_of};
-ghost use Rattle.machine.specs.State.{state_of};
+ghost use Rattle.machine.specs.State.{state_of, held_state};
 ghost use Rattle.forms.specs.Refusal.{answer_number};
 ghost use Rattle.forms.specs.Version.{is_packed};
 ghost use Rattle.forms.specs.File.{word_for, size_for};
@@ -171,17 +171,24 @@ pub fn load(
     Ok(())
 }
 
-// The state that the bytes hold, as one of our own.
-pub fn loaded(saved: &[u8]) -> Result<Registers, Refusal>
-    ensures { own_load result ≡ load saved.now blank }
+// A state of our own, all zero.
+fn zeroed() -> Registers
+    ensures { held_state result ≡ blank }
 {
-    let mut own = Registers {
+    Registers {
         vectors: [0; 2048],
         masks: [0; 8],
         general: [0; 16],
         control: 0,
         pointer: 0,
-    };
+    }
+}
+
+// The state that the bytes hold, into one of our own. Refused, that stays as it was.
+fn load_own(saved: &[u8], own: &mut Registers) -> Result<(), Refusal>
+    ensures { record { number = answer_number result; state = held_state own.new }
+        ≡ load saved.now (held_state own.old) }
+{
     load(
         saved,
         &mut own.vectors,
@@ -189,19 +196,29 @@ pub fn loaded(saved: &[u8]) -> Result<Registers, Refusal>
         &mut own.general,
         &mut own.control,
         &mut own.pointer,
-    )?;
+    )
+}
+
+// The state that the bytes hold, as one of our own.
+pub fn loaded(saved: &[u8]) -> Result<Registers, Refusal>
+    ensures { own_load result ≡ load saved.now blank }
+{
+    let mut own = zeroed();
+    load_own(saved, &mut own)?;
     Ok(own)
 }
 
 // ---- moving
 
-// R9.10: the state that the source holds into the target, in the version that has a number. Refused, the target stays as it was.
+// R9.10: the state that the source holds into the target, in the version that has a number. Refused, the target stays as it was. The
+// state is loaded in place: by way of `loaded`, tried, a move took 270 to 317 ns, since 2.3 KB go out of the Result.
 pub fn move_form(number: u32, source: &[u8], target: &mut [u8]) -> Result<(), Refusal>
     ensures { record { number = answer_number result; target = target.new }
         ≡ move number source.now target.old }
 {
     Version::try_from(number)?;
-    let own = loaded(source)?;
+    let mut own = zeroed();
+    load_own(source, &mut own)?;
     save(
         number,
         &own.vectors,

@@ -14,7 +14,7 @@ pub fn has(lanes: u32, j: usize) -> bool
 pub fn end_of(lanes: u32) -> usize
     ensures { (lanes < 2 ^ result) × (result ≤ 32) × (2 ^ result ≤ 2 * lanes + 1) }
 {
-    (32 - u32::leading_zeros(lanes)) as usize
+    (32 - lanes.leading_zeros()) as usize
 }
 
 // The lanes below a number.
