@@ -33,6 +33,11 @@ fn put_lines(mut machine: Machine<'_>, code: &[u8], memory: &[u8], out: &mut [u8
     put_stop_line(out, at, offset)
 }
 
+// R10.1: the most bytes of code, and of memory.
+const MOST_CODE: usize = 4096;
+
+const MOST_MEMORY: usize = 32768;
+
 // The parts of input that is laid out.
 #[derive(Clone, Copy)]
 struct Parts<'a> {
@@ -48,10 +53,10 @@ fn parts_of(input: &[u8]) -> Option<Parts<'_>>
     let (form, rest) = input.split_at_checked(saved::size_at(input))?;
     let (count, rest) = rest.split_first_chunk::<2>()?;
     let (code, memory) = rest.split_at_checked(parts::read_number(count) as usize)?;
-    if 4096 < code.len() {
+    if MOST_CODE < code.len() {
         return None;
     }
-    if 32768 < memory.len() {
+    if MOST_MEMORY < memory.len() {
         return None;
     }
     Some(Parts { form, code, memory })

@@ -31,7 +31,7 @@ impl Control {
         ensures { result ≡ record { bits = bit_or self.bits flags } }
     {
         Control {
-            bits: self.bits | (flags as u32),
+            bits: self.bits | u32::from(flags),
         }
     }
 

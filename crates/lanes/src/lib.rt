@@ -60,7 +60,7 @@ fn operate(operation: Operation, e: Environment, d: u16, f: u16, x: u16) -> Outc
     }
 }
 
-// This loop and those below go by the index, which arrays and mask share: what an adapter of `iter_mut` writes no proof knows.
+// This loop and those below go by the lane's number, which up to four arrays and the mask share: zipped iterators are no plainer.
 fn one_by_one(
     on: u32,
     operation: Operation,

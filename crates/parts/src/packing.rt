@@ -40,7 +40,7 @@ pub(crate) fn word_of(vectors: &[u8]) -> u32
     let mut word = 0;
     let (registers, _) = vectors.as_chunks::<64>();
     for (i, register) in registers.iter().enumerate() {
-        word = word + mark(register, i);
+        word += mark(register, i);
     }
     word
 }
@@ -56,7 +56,7 @@ fn size_of(word: u32, i: usize) -> usize
     0
 }
 
-// How many bytes a packed file has, by its word: a loop over the numbers of bits, as in the two below, where no slice is walked.
+// How many bytes a packed file has, by its word. The loop goes over the numbers of bits, as the definition does.
 pub(crate) fn size_by(word: u32) -> usize
     ensures { (result ≡ place_of word 32) × (result ≤ 2052) }
 {
@@ -131,7 +131,7 @@ fn is_empty(word: u32, i: usize, part: &[u8], at: usize) -> bool
     false
 }
 
-// Some register is.
+// Some register is. By the number of its bit: those that are there lie at places that the word tells.
 pub(crate) fn has_empty(part: &[u8]) -> bool
     requires { length part.now ≡ packed_size part.now }
     ensures { result ≡ has_empty part.now }

@@ -35,6 +35,7 @@ fn replay_items(mut machine: Machine<'_>, items: &[u8]) -> Report
     ensures { result ≡ replay_from (length items.now) (lent_state machine.entry) items.now 0 }
 {
     let mut rest = items;
+    // How many items are behind, for the report.
     let mut count = 0;
     while !rest.is_empty() {
         let Some(item) = find(rest) else {

@@ -18,6 +18,9 @@ use parts::file;
 // R9.1: where the vector file begins.
 const FILE_AT: usize = 209;
 
+// R9.5: the least number that is no control word.
+const HIGH_CONTROL: u64 = 0x1_0000;
+
 // ---- saving
 
 // Control word, pointer, general registers and masks over the 204 bytes of a part.
@@ -136,7 +139,7 @@ fn source_version(saved: &[u8]) -> Result<Version, Refusal>
     if file::is_wrong(packed, &saved[FILE_AT..]) {
         return Err(Refusal::Form);
     }
-    if 0x1_0000 <= parts::read_number(&saved[5..9]) {
+    if HIGH_CONTROL <= parts::read_number(&saved[5..9]) {
         return Err(Refusal::HighControlBit);
     }
     Ok(version)

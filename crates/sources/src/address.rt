@@ -103,7 +103,7 @@ fn words_outside(on: u32, length: u64, at: u64, broadcast: bool) -> bool
     if words_inside(length, at, words_below(broadcast, end)) {
         return false;
     }
-    // By the lane's number, and all of them, as `any` would branch at each.
+    // By the lane's number, of no slice, so that a `fold` is no plainer; and of all lanes, as `any` would branch at each.
     let mut found = false;
     for j in 0..end {
         found |= lane_outside(on, length, at, broadcast, j);

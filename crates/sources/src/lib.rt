@@ -28,8 +28,8 @@ fn half_at(bytes: &[u8], at: usize) -> u16
 }
 
 // No array type in this file: docs/GUARANTEES.md names the three functions that take the slice from their callers, and may ask no more.
-// Loops here go by the lane's number, which is that of its mask bit and its place: with `array::from_fn`, tried, no proof knows of a later
-// call that the closure still holds the same slice.
+// Loops here go by the lane's number, which gives the place and the mask bit too, so that `iter_mut` is no plainer; with `array::from_fn`,
+// tried, no proof knows of a later call that the closure still holds the same slice.
 fn register_halves(vectors: &[u8], n: usize) -> [u16; 32]
     requires { (length vectors.now ≡ 2048) × (n < 32) }
     ensures { result ≡ register_halves every_lane vectors.now n }

@@ -95,8 +95,8 @@ fn has_its_size(vectors: &[u8; 2048])
     ensures { length vectors.now ≡ 2048 }
 {}
 
-// R4.19, of a state whose vector file has its size: the answer has the number (R4.1) and the length (R4.17). No `?` and no error enum:
-// docs/DECISIONS.md, 'Forms of the code', names what a step does with the two outcomes of decoding, `let .. else` and the number.
+// R4.19, of a state whose vector file has its size: the answer has the number (R4.1) and the length (R4.17). No `?` and no error
+// enum: a step's answer is C's struct (R4.1), and docs/DECISIONS.md, 'Forms of the code that were asked for', names the `let .. else`.
 pub fn machine_step(machine: &mut Machine<'_>, code: &[u8], memory: &[u8]) -> Answer
     ensures left { stepped result (lent_state machine.new) ≡ step memory.now (lent_state machine.old) code.now }
     ensures same { LendsTheSame machine.old machine.new }

@@ -125,7 +125,8 @@ fn store_mask(masks: &mut [u64; 8], n: usize, bits: u64)
     masks[n] = bits;
 }
 
-// R5.9 to R5.11: a vector register, or a mask.
+// R5.9 to R5.11: a vector register, or a mask. The file is a slice, as docs/GUARANTEES.md names this function; with its length known `unwrap`
+// is no branch.
 pub fn store(vectors: &mut [u8], masks: &mut [u64; 8], on: u32, i: Instruction, results: Results)
     requires { (length vectors.old ≡ 2048) × Bounds i }
     ensures { (vectors.new ≡ vectors_stored (is_set on) i results vectors.old i.destination)

@@ -6,7 +6,7 @@ use native.Mathlib.Omega.{arith}
 use lib.ListN.{length}
 use Rattle.command.specs.Command.{code_length, memory_of}
 use Rattle.command.proofs.Input.{is_laid, not_laid, form_found, counted, code_found, memory_found}
-use Rattle.command.proofs.parts_of.Goals.{Else-memory-gt32768}
+use Rattle.command.proofs.parts_of.Goals.{Else-memory-gt-MOST_MEMORY}
 use Rattle.command.proofs.parts_of.Goals as goal
 
 pub returns-in_err-form : goal.returns-in_err-form
@@ -26,34 +26,34 @@ returns-in_err-code c =
     rw c.from_residual-in_err-code.ensures (not_laid _
     (λ w. omega (arith, w.whole, size, form, count, counted _ size form count c.read_number.ensures.0, c.in_err-code.ensures.cases)))
 
-pub returns-then-code-gt4096 : goal.returns-then-code-gt4096
-returns-then-code-gt4096 c =
+pub returns-then-code-gt-MOST_CODE : goal.returns-then-code-gt-MOST_CODE
+returns-then-code-gt-MOST_CODE c =
     let size = c.size_at.ensures.0 in
     let form = c.in_ok-form.ensures.cases in
     let count = c.in_ok-count.ensures.cases in
     not_laid _
-    (λ w. omega (arith, w.code, counted _ size form count c.read_number.ensures.0, c.in_ok-code.ensures.cases, c.if-code-gt4096.true))
+    (λ w. omega (arith, w.code, counted _ size form count c.read_number.ensures.0, c.in_ok-code.ensures.cases, c.if-code-gt-MOST_CODE.true))
 
-pub returns-then-memory-gt32768 : goal.returns-then-memory-gt32768
-returns-then-memory-gt32768 c =
+pub returns-then-memory-gt-MOST_MEMORY : goal.returns-then-memory-gt-MOST_MEMORY
+returns-then-memory-gt-MOST_MEMORY c =
     let size = c.size_at.ensures.0 in
     let form = c.in_ok-form.ensures.cases in
     let count = c.in_ok-count.ensures.cases in
     let memory = memory_found _ size form count c.read_number.ensures.0 c.in_ok-code.ensures.cases in
-    not_laid _ (λ w. omega (arith, w.memory, ap length memory, c.if-memory-gt32768.true))
+    not_laid _ (λ w. omega (arith, w.memory, ap length memory, c.if-memory-gt-MOST_MEMORY.true))
 
 -- where all is found, the two sizes fit
-code_fits : (c : Else-memory-gt32768) → code_length c.args.input.now ≤ 4096
+code_fits : (c : Else-memory-gt-MOST_MEMORY) → code_length c.args.input.now ≤ 4096
 code_fits c =
     let count = counted _ c.size_at.ensures.0 c.in_ok-form.ensures.cases c.in_ok-count.ensures.cases c.read_number.ensures.0 in
-    omega (arith, count, c.in_ok-code.ensures.cases, c.if-code-gt4096.false)
+    omega (arith, count, c.in_ok-code.ensures.cases, c.if-code-gt-MOST_CODE.false)
 
-memory_fits : (c : Else-memory-gt32768) → length (memory_of c.args.input.now) ≤ 32768
+memory_fits : (c : Else-memory-gt-MOST_MEMORY) → length (memory_of c.args.input.now) ≤ 32768
 memory_fits c =
     let memory =
     memory_found _ c.size_at.ensures.0 c.in_ok-form.ensures.cases c.in_ok-count.ensures.cases c.read_number.ensures.0
     c.in_ok-code.ensures.cases in
-    omega (arith, ap length memory, c.if-memory-gt32768.false)
+    omega (arith, ap length memory, c.if-memory-gt-MOST_MEMORY.false)
 
 pub returns : goal.returns
 returns c =
@@ -65,9 +65,9 @@ returns c =
     record {
       laid_out = is_laid _ (record {
         head = omega (arith, size, form, count);
-        code = code_fits (goal.at.returns c).Else-memory-gt32768;
+        code = code_fits (goal.at.returns c).Else-memory-gt-MOST_MEMORY;
         whole = omega (arith, size, form, count, counted _ size form count number, code);
-        memory = memory_fits (goal.at.returns c).Else-memory-gt32768;
+        memory = memory_fits (goal.at.returns c).Else-memory-gt-MOST_MEMORY;
       });
       form = form_found _ size form count number;
       code = code_found _ size form count number code;

@@ -37,10 +37,10 @@ pub returns-then-is_wrong-clause-number : goal.returns-then-is_wrong-clause-numb
 returns-then-is_wrong-clause-number c =
     wrong_one _ (packs (goal.at.returns-then-is_wrong-clause-number c).After-is_packed-packed) c.is_wrong.ensures c.if-is_wrong.true
 
-pub returns-then-read_number-ge65536-clause-number : goal.returns-then-read_number-ge65536-clause-number
-returns-then-read_number-ge65536-clause-number c =
-    high_control _ (passed (goal.at.returns-then-read_number-ge65536-clause-number c).Else-is_wrong) c.read_number.ensures.0
-    c.if-read_number-ge65536.true
+pub returns-then-read_number-ge-HIGH_CONTROL-clause-number : goal.returns-then-read_number-ge-HIGH_CONTROL-clause-number
+returns-then-read_number-ge-HIGH_CONTROL-clause-number c =
+    high_control _ (passed (goal.at.returns-then-read_number-ge-HIGH_CONTROL-clause-number c).Else-is_wrong) c.read_number.ensures.0
+    c.if-read_number-ge-HIGH_CONTROL.true
 
 pub returns-clause-number : goal.returns-clause-number
 returns-clause-number c =
