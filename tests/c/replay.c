@@ -2,7 +2,7 @@
  * Replays of recordings as a C engineer uses them (R14.9): reports on recordings that were put
  * together here by hand (R14.2, R14.7), and what C must keep (R8.4): a null pointer with length 0,
  * the ends of what is lent on both sides, a recording that may not be written, every alignment,
- * lengths above 2 to the 32, many items, and any bytes at all.
+ * lengths above 2 to the 32, many items, and any bytes at all; and how much stack a call takes.
  *
  *   replay [RECORDINGS [SEED]]     20,000 damaged recordings if nothing is said, and one of 50 times
  *                                  so many items
@@ -13,6 +13,9 @@
 #include "random.h"
 
 #include <inttypes.h>
+#include <sys/wait.h>
+#include <ucontext.h>
+#include <unistd.h>
 
 enum {
     SAME,
@@ -458,6 +461,46 @@ static void check_damaged(uint64_t count) {
     check(wrong == 0 && reached, "damaged recordings and random bytes");
 }
 
+/* The stack of a call that is seen to fit: "some 4 KB". Below it is a page that may not be touched. */
+enum { STACK = 4608 };
+static recording on_small_stack;
+static ridgecrook_report report_there;
+static ucontext_t back;
+
+static void replay_there(void) {
+    report_there = replay(&on_small_stack);
+}
+
+static int fits_stack(void) {
+    ucontext_t there;
+    if (getcontext(&there) != 0) {
+        return 0;
+    }
+    there.uc_stack.ss_sp = pages_end(2) - 2 * PAGE;
+    there.uc_stack.ss_size = STACK;
+    there.uc_link = &back;
+    makecontext(&there, replay_there, 0);
+    return swapcontext(&back, &there) == 0 && is(report_there, SAME, ITEMS);
+}
+
+/* In a process of its own, which stops where the stack is too small. */
+static void check_stack(void) {
+#ifdef __SANITIZE_ADDRESS__
+    puts("skipped: a replay on a small stack, since the sanitizer's own memset and memcpy take more");
+    return;
+#endif
+    size_t places[ITEMS + 1];
+    on_small_stack = by_hand(2, places);
+    fflush(stdout);
+    pid_t child = fork();
+    if (child == 0) {
+        _exit(fits_stack() ? 0 : 1);
+    }
+    int status = 1;
+    check(child > 0 && waitpid(child, &status, 0) == child && status == 0,
+          "a replay on a stack of 4,608 bytes");
+}
+
 int main(int count, char **arguments) {
     uint64_t recordings = count > 1 ? strtoull(arguments[1], NULL, 10) : 20000;
     state = count > 2 ? strtoull(arguments[2], NULL, 10) : 20240311;
@@ -471,6 +514,7 @@ int main(int count, char **arguments) {
     check_ends();
     check_greedy_items();
     check_alignment();
+    check_stack();
     check_huge();
     check_many(1);
     check_many(70000);

@@ -1,20 +1,30 @@
 // The programs' reading and writing. They take no input that was cut short (R10.7). No contract can say what is read.
 #![tactic(auto)]
 
-ghost use Rattle.std.specs.Prelude.{◌^◌, ◌≤◌, ◌<◌, length, IfOk};
+ghost use Rattle.std.specs.Prelude.{◌^◌, ◌≤◌, ◌<◌, length, MatchResult};
 
 use std::io;
 use std::io::{Read, Write};
 
+// A read failed, after so many bytes had come.
+#[derive(Drop)]
+pub struct Cut {
+    pub count: usize,
+    pub error: io::Error,
+}
+
 // Reads until the buffer is full or the input ends, and answers how many bytes came. `read_exact` does not tell a failed read from the end
 // by what it leaves, and one read more would not either: a connection that was reset says so once, and then that the input has ended.
-// No `for`: a read answers how many bytes it gave.
-pub fn read_input<R: Read>(reader: &mut R, buf: &mut [u8]) -> io::Result<usize>
-    ensures { IfOk result (λ count. count ≤ length buf.new) }
+// No `for`: a read answers how many bytes it gave. No `?`: what failed says how many bytes came before.
+pub fn read_input<R: Read>(reader: &mut R, buf: &mut [u8]) -> Result<usize, Cut>
+    ensures { MatchResult result (λ count. count ≤ length buf.new) (λ cut. cut.count ≤ length buf.new) }
 {
     let mut count = 0;
     while count < buf.len() {
-        let more = reader.read(&mut buf[count..])?;
+        let more = match reader.read(&mut buf[count..]) {
+            Ok(more) => more,
+            Err(error) => return Err(Cut { count, error }),
+        };
         if more == 0 {
             break;
         }

@@ -64,12 +64,15 @@ pub fn read_registers(part: &[u8], values: &mut [u64])
     }
 }
 
-// Bytes over a part of the same length.
+// Bytes over a part of the same length. One by one: of slices that may overlap, as far as the back end sees, `copy_from_slice` makes a call
+// of memmove, and the archive would need it from outside.
 pub(crate) fn copy(part: &mut [u8], bytes: &[u8])
     requires { length part.old ≡ length bytes.now }
     ensures { part.new ≡ bytes.now }
 {
-    part.copy_from_slice(bytes);
+    for (k, byte) in bytes.iter().enumerate() {
+        part[k] = *byte;
+    }
 }
 
 // Zeros over a part.

@@ -57,7 +57,9 @@ pub fn replay(recording: &[u8]) -> Report
     let Some((front, items)) = recording.split_at_checked(saved::size_at(recording)) else {
         return Report::BadState;
     };
-    let Ok(mut own) = saved::loaded(front) else {
+    // In place: what `saved::loaded` hands back by value would lie on the stack twice more.
+    let mut own = saved::zeroed();
+    let Ok(()) = saved::load_own(front, &mut own) else {
         return Report::BadState;
     };
     let machine = Machine {

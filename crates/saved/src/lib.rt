@@ -175,7 +175,7 @@ pub fn load(
 }
 
 // A state of our own, all zero.
-fn zeroed() -> Registers
+pub fn zeroed() -> Registers
     ensures { held_state result ≡ blank }
 {
     Registers {
@@ -188,7 +188,7 @@ fn zeroed() -> Registers
 }
 
 // The state that the bytes hold, into one of our own. Refused, that stays as it was.
-fn load_own(saved: &[u8], own: &mut Registers) -> Result<(), Refusal>
+pub fn load_own(saved: &[u8], own: &mut Registers) -> Result<(), Refusal>
     ensures { record { number = answer_number result; state = held_state own.new }
         ≡ load saved.now (held_state own.old) }
 {
