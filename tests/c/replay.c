@@ -463,6 +463,9 @@ static void check_damaged(uint64_t count) {
 
 /* The stack of a call that is seen to fit: "some 4 KB". Below it is a page that may not be touched. */
 enum { STACK = 4608 };
+#ifndef __has_feature /* clang's way to tell of its sanitizer; gcc has the name asked for first below */
+#define __has_feature(feature) 0
+#endif
 static recording on_small_stack;
 static ridgecrook_report report_there;
 static ucontext_t back;
@@ -485,7 +488,7 @@ static int fits_stack(void) {
 
 /* In a process of its own, which stops where the stack is too small. */
 static void check_stack(void) {
-#ifdef __SANITIZE_ADDRESS__
+#if defined(__SANITIZE_ADDRESS__) || __has_feature(address_sanitizer)
     puts("skipped: a replay on a small stack, since the sanitizer's own memset and memcpy take more");
     return;
 #endif
