@@ -2,9 +2,9 @@
  * Ridgecrook for C: an interpreter of AVX512-FP16 machine code, one instruction a call, the half
  * arithmetic (IEEE 754 binary16) below it, and the replay of runs that were recorded elsewhere.
  *
- * Link with libridgecrook.a, which `make` writes to target/staticlib/. The
- * library needs nothing else, and is compiled for plain x86-64: no processor with AVX512-FP16 is
- * asked for.
+ * Link with libridgecrook.a, which `make` writes to target/staticlib/. The library needs nothing
+ * else (of the C library it calls memcpy and memset alone), and is compiled for plain x86-64: no
+ * processor with AVX512-FP16 is asked for.
  *
  * A half is passed as the 16 bits that it consists of: 1 sign, 5 exponent and 10 fraction bits,
  * the sign highest. 1.0 is 0x3C00.

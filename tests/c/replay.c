@@ -461,11 +461,19 @@ static void check_damaged(uint64_t count) {
     check(wrong == 0 && reached, "damaged recordings and random bytes");
 }
 
-/* The stack of a call that is seen to fit: "some 4 KB". Below it is a page that may not be touched. */
-enum { STACK = 4608 };
-#ifndef __has_feature /* clang's way to tell of its sanitizer; gcc has the name asked for first below */
-#define __has_feature(feature) 0
+/* gcc and clang tell in ways of their own that their address sanitizer is on. */
+#if defined(__SANITIZE_ADDRESS__)
+#define IS_SANITIZED 1
+#elif defined(__has_feature)
+#if __has_feature(address_sanitizer)
+#define IS_SANITIZED 1
 #endif
+#endif
+#ifndef IS_SANITIZED
+#define IS_SANITIZED 0
+#endif
+
+enum { STACK = 4608 }; /* "some 4 KB", as the header says of a replay */
 static recording on_small_stack;
 static ridgecrook_report report_there;
 static ucontext_t back;
@@ -474,6 +482,7 @@ static void replay_there(void) {
     report_there = replay(&on_small_stack);
 }
 
+/* The stack's end lies on a page that may not be touched. */
 static int fits_stack(void) {
     ucontext_t there;
     if (getcontext(&there) != 0) {
@@ -486,12 +495,15 @@ static int fits_stack(void) {
     return swapcontext(&back, &there) == 0 && is(report_there, SAME, ITEMS);
 }
 
-/* In a process of its own, which stops where the stack is too small. */
+/*
+ * In a process of its own, which stops where the stack is too small. Replays were made before, so
+ * that the system's loader has found memset and memcpy: that takes more stack than they do.
+ */
 static void check_stack(void) {
-#if defined(__SANITIZE_ADDRESS__) || __has_feature(address_sanitizer)
-    puts("skipped: a replay on a small stack, since the sanitizer's own memset and memcpy take more");
-    return;
-#endif
+    if (IS_SANITIZED) {
+        puts("skipped: a replay on a small stack, since the sanitizer's own memset takes more");
+        return;
+    }
     size_t places[ITEMS + 1];
     on_small_stack = by_hand(2, places);
     fflush(stdout);

@@ -15,16 +15,15 @@ pub struct Cut {
 
 // Reads until the buffer is full or the input ends, and answers how many bytes came. `read_exact` does not tell a failed read from the end
 // by what it leaves, and one read more would not either: a connection that was reset says so once, and then that the input has ended.
-// No `for`: a read answers how many bytes it gave. No `?`: what failed says how many bytes came before.
+// No `for`: a read answers how many bytes it gave.
 pub fn read_input<R: Read>(reader: &mut R, buf: &mut [u8]) -> Result<usize, Cut>
     ensures { MatchResult result (λ count. count ≤ length buf.new) (λ cut. cut.count ≤ length buf.new) }
 {
     let mut count = 0;
     while count < buf.len() {
-        let more = match reader.read(&mut buf[count..]) {
-            Ok(more) => more,
-            Err(error) => return Err(Cut { count, error }),
-        };
+        let more = reader
+            .read(&mut buf[count..])
+            .map_err(|error| Cut { count, error })?;
         if more == 0 {
             break;
         }
